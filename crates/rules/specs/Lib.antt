@@ -1,0 +1,14 @@
+pub mod Finite
+pub mod Graph
+pub mod Query
+pub mod Reading
+pub mod Rule
+pub mod Levels
+pub mod Lists
+pub mod Stored
+pub mod Verdict
+pub mod Accept
+pub mod Outcomes
+pub mod Promises
+pub mod Numbers
+pub mod Published
