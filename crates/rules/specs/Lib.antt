@@ -12,3 +12,4 @@ pub mod Outcomes
 pub mod Promises
 pub mod Numbers
 pub mod Published
+pub mod Writing
