@@ -5,3 +5,13 @@ pub mod Places
 pub mod Writing
 pub mod Put
 pub mod Loops
+pub mod Graph
+pub mod Ends
+pub mod Query
+pub mod Bisim
+pub mod Agree
+pub mod Numbering
+pub mod Levels
+pub mod Accepted
+pub mod AllOrNone
+pub mod Builder

@@ -1,7 +1,8 @@
 -- The written conditions of the check, and its first fault: 15, 16 and 17 with their values.
-use Prim.Native.Nat.{ℕ, zero, suc, _+_, _*_, min}
+use Prim.Native.Nat.{ℕ, zero, suc, _+_, _*_, _<_, min}
+use mathlib.Core.Path.{_≡_}
 use mathlib.Core.List.{List}
-use mathlib.Core.Bool.{Bool, _&&_, _||_, not, cond, Bool·beq}
+use mathlib.Core.Bool.{Bool, true, _&&_, _||_, not, cond, Bool·beq}
 use lib.Dec.{eqb, leb, ltb}
 use lib.ListN.{length, getD, take}
 use Rattle.rules.specs.declared.Refusal.{Refusal}
@@ -22,6 +23,14 @@ numberOk isIn alike n t p =
 -- position p of level i is right, over the stored levels T
 unfoldable pub levelOk : Rule → Graph → ℕ → (ℕ → List ℕ) → ℕ → Bool
 levelOk ρ g i T p = numberOk (connectedAt g i) (agreeAt ρ g i T) (g .items * g .items) (T i) p
+
+-- level i is right at each position
+unfoldable pub LevelAccepted : Rule → Graph → ℕ → (ℕ → List ℕ) → Type 0
+LevelAccepted ρ g i T = (p : ℕ) → p < g .items * g .items → levelOk ρ g i T p ≡ true
+
+-- levels 1 to k are right
+unfoldable pub LevelsAccepted : Rule → Graph → ℕ → (ℕ → List ℕ) → Type 0
+LevelsAccepted ρ g k T = (i : ℕ) → i < k → LevelAccepted ρ g (suc i) T
 
 -- the first faulty position of level i, or V²
 unfoldable pub firstFault : Rule → Graph → ℕ → (ℕ → List ℕ) → ℕ

@@ -1,14 +1,14 @@
 -- What a loop that counts up keeps of a test over the numbers below a bound: its start, its turn, and where it is left.
-use Prim.Native.Nat.{ℕ, zero, suc, _+_, _≤_, _<_}
-use mathlib.Core.Path.{_≡_, refl, sym, ap, _∙_}
+use Prim.Native.Nat.{ℕ, _+_, _≤_, _<_}
+use mathlib.Core.Path.{_≡_, refl, sym}
 use mathlib.Core.Logic.{⊎-elim}
-use mathlib.Core.Bool.{Bool, true, false, _&&_, _||_}
+use mathlib.Core.Bool.{Bool, true, false}
 use native.Mathlib.Nat.{eq-or-lt-of-le}
 use native.Mathlib.Numerals.{add-one}
 use native.Mathlib.Omega.{arith}
 use Rattle.rules.specs.Finite.{anyBelow, allBelow, firstBelow}
 use Rattle.rules.proofs.Laws.Tests.{not-both, not-true-of}
-use Rattle.rules.proofs.Laws.Finite.{any-none, any-here, all-at, first-is, first-le}
+use Rattle.rules.proofs.Laws.Finite.{any-none, all-at, first-is, first-le}
 
 module _ (f : ℕ → Bool) where
   pub any-start : anyBelow 0 f ≡ false

@@ -1,11 +1,11 @@
 -- A list with a part written over, one element more at a time.
-use Prim.Native.Nat.{ℕ, zero, suc, _+_, _*_, _≤_, _<_}
-use mathlib.Core.Path.{_≡_, refl, sym, subst, ap, _∙_}
+use Prim.Native.Nat.{ℕ, suc, _+_, _≤_, _<_}
+use mathlib.Core.Path.{_≡_, sym, ap, _∙_}
 use mathlib.Core.List.{List, [], _∷_, _++_, append-assoc}
-use native.Mathlib.Nat.{add-zero, add-suc}
+use native.Mathlib.Nat.{add-zero}
 use native.Mathlib.Omega.{arith}
 use lib.ListN.{length, getD, take, drop, set, length-append, length-take, length-drop, take-append-drop}
-use lib.Seq.{length-take-le, set-at, take-at, drop-at, drop-cons, take-append-le, drop-append-le, take-take}
+use lib.Seq.{length-take-le, set-at, take-at, drop-at, drop-cons, take-append-le, drop-append-le}
 use Rattle.rules.specs.Writing.{put}
 
 pub length-snoc : (s : List ℕ) (k : ℕ) → length (s ++ (k ∷ [])) ≡ length s + 1

@@ -3,7 +3,7 @@ use Prim.Native.Nat.{ℕ, zero, suc, _+_, _*_, _-_, _/_, _%_, _≤_, _<_}
 use mathlib.Core.Path.{_≡_, refl, sym, ap, _∙_}
 use mathlib.Core.List.{List}
 use mathlib.Core.Bool.{_&&_, cond}
-use native.Mathlib.Nat.{suc-mul, zero-mul, mul-zero, mul-le-mul-right, not-suc-le-zero, zero-add, add-zero, add-suc, add-assoc, mod-lt, div-add-mod', div-lt-iff-lt-mul}
+use native.Mathlib.Nat.{suc-mul, zero-mul, not-suc-le-zero, zero-add, add-zero, add-suc, add-assoc, mod-lt, div-add-mod', div-lt-iff-lt-mul}
 use lib.Dec.{eqb}
 use borrow.Author.Tests.{eq-eqb, ne-eqb}
 use native.Mathlib.Decide.{decLt, ℕ-discrete}
