@@ -1,0 +1,5 @@
+pub mod Bits
+pub mod Marks
+pub mod Tables
+pub mod Areas
+pub mod Agreement
