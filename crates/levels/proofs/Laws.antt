@@ -3,3 +3,7 @@ pub mod Marks
 pub mod Tables
 pub mod Areas
 pub mod Agreement
+pub mod Reach
+pub mod Numbers
+pub mod Level
+pub mod Right

@@ -2,7 +2,7 @@
 use Prim.Native.Nat.{ℕ, _*_, _+_, _/_, _%_, _^_, _<_}
 use mathlib.Core.Path.{_≡_}
 use mathlib.Core.List.{List}
-use mathlib.Core.Bool.{Bool}
+use mathlib.Core.Bool.{Bool, cond}
 use lib.Dec.{eqb}
 use lib.ListN.{getD, take}
 use Rattle.rules.specs.Graph.{Graph, hasEdge}
@@ -22,3 +22,7 @@ markedGraph n area = record { items = n; labels = 8; edge = markedEdge n area }
 -- the marks are those of the edge table
 pub record Marked (n : ℕ) (edges area : List ℕ) : Type 0 where
   pub bit-at : (q l : ℕ) → q < n * n → l < 8 → bitAt l (getD area q 0) ≡ hasEdge edges (q / n) (q % n) l
+
+-- the byte of a test
+unfoldable pub oneIf : Bool → ℕ
+oneIf b = cond b 1 0

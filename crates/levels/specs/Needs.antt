@@ -1,14 +1,14 @@
 -- What callers show, as records with named parts, and what the functions of levels leave.
-use Prim.Native.Nat.{ℕ, suc, _+_, _*_, _/_, _-_, _≤_, _<_}
+use Prim.Native.Nat.{ℕ, _+_, _*_, _/_, _-_, _≤_, _<_}
 use mathlib.Core.Path.{_≡_}
 use mathlib.Core.List.{List}
 use mathlib.Core.Bool.{Bool}
 use lib.ListN.{length, getD, take, drop}
 use Rattle.rules.specs.Rule.{rule}
 use Rattle.rules.specs.Levels.{connectedAt, agreeAt, levelOf, maxOf, numbering, levelOver}
-use Rattle.rules.specs.Accept.{LevelsAccepted}
+use Rattle.rules.specs.Accept.{LevelsAccepted, firstFault}
 use Rattle.rules.specs.Writing.{put}
-use Rattle.levels.specs.Marks.{markedGraph}
+use Rattle.levels.specs.Marks.{markedGraph, oneIf}
 
 -- a pair of items
 pub record Pair (n v u : ℕ) : Type 0 where
@@ -49,10 +49,25 @@ isIn n i area = connectedAt (markedGraph n area) i
 abbrev pub alike : ℕ → ℕ → List ℕ → List ℕ → ℕ → ℕ → Bool
 alike n i levels area = agreeAt rule (markedGraph n area) i (levelOf n levels)
 
--- the first p numbers of level i stand
-pub record Begun (n i : ℕ) (levels area : List ℕ) (p : ℕ) : Type 0 where
-  pub inside : p ≤ n * n
+-- the byte that says whether the pair at p is connected within i
+abbrev pub nearByte : ℕ → ℕ → List ℕ → ℕ → ℕ
+nearByte n i area p = oneIf (connectedAt (markedGraph n area) i p)
+
+-- these bytes stand behind the marks
+pub record Near (n i : ℕ) (area : List ℕ) : Type 0 where
+  pub byte-at : (p : ℕ) → p < n * n → getD area (n * n + p) 0 ≡ nearByte n i area p
+
+-- the first p numbers of level i stand, and top is the largest
+pub record Begun (n i : ℕ) (levels area : List ℕ) (p top : ℕ) : Type 0 where
   pub numbers : take p (drop (base n i) levels) ≡ numbering (isIn n i area) (alike n i levels area) p
+  pub largest : top ≡ maxOf (take p (drop (base n i) levels))
+  pub small : top ≤ p
+
+-- top is the largest of the first p numbers of level i, and not above p
+pub record Seen (n i : ℕ) (levels : List ℕ) (p top : ℕ) : Type 0 where
+  pub inside : p < n * n
+  pub largest : top ≡ maxOf (take p (levelOf n levels i))
+  pub small : top ≤ p
 
 -- of the area, the marks and what lies past the first 9·n² bytes are as they were
 pub record Kept (n : ℕ) (area area' : List ℕ) : Type 0 where
@@ -61,9 +76,17 @@ pub record Kept (n : ℕ) (area area' : List ℕ) : Type 0 where
   pub size : length area' ≡ length area
 
 -- level i is numbered: the count of its classes, and the levels with its numbers in their place
-pub record Numbered (n i : ℕ) (levels area : List ℕ) (r : ℕ) (levels' area' : List ℕ) : Type 0 where
+pub record Placed (n i : ℕ) (levels area : List ℕ) (r : ℕ) (levels' : List ℕ) : Type 0 where
   pub count : r ≡ maxOf (levelOver rule (markedGraph n area) i levels)
   pub written : levels' ≡ put levels (base n i) (levelOver rule (markedGraph n area) i levels)
+
+pub record Numbered (n i : ℕ) (levels area : List ℕ) (r : ℕ) (levels' area' : List ℕ) : Type 0 where
+  pub placed : Placed n i levels area r levels'
+  pub kept : Kept n area area'
+
+-- level i is checked: its first faulty position, or n·n
+pub record Faulty (n i : ℕ) (levels area : List ℕ) (r : ℕ) (area' : List ℕ) : Type 0 where
+  pub fault : r ≡ firstFault rule (markedGraph n area) i (levelOf n levels)
   pub kept : Kept n area area'
 
 -- there is room for the marks, and none is set yet

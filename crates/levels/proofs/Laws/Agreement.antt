@@ -1,6 +1,6 @@
 -- The tests of agreement, one after the other, as the code makes them.
-use Prim.Native.Nat.{ℕ, _*_, _<_}
-use mathlib.Core.Path.{_≡_, sym, _∙_}
+use Prim.Native.Nat.{ℕ, _*_, _/_, _%_, _<_}
+use mathlib.Core.Path.{_≡_, refl, sym, _∙_}
 use mathlib.Core.List.{List}
 use mathlib.Core.Bool.{Bool, true, false, not, _&&_}
 use native.Mathlib.Omega.{arith}
@@ -9,7 +9,7 @@ use borrow.Author.Tests.{not-true, not-false}
 use Rattle.rules.specs.Finite.{allBelow}
 use Rattle.rules.specs.Graph.{Graph}
 use Rattle.rules.specs.Rule.{Rule, rule}
-use Rattle.rules.specs.Levels.{sameEnds, sameSteps, twins, splitOk, agree}
+use Rattle.rules.specs.Levels.{sameEnds, sameSteps, twins, splitOk, agree, agreeAt}
 use Rattle.rules.proofs.Laws.Tests.{and-left, and-right, and-intro, not-true-of, not-both}
 use Rattle.rules.proofs.Laws.Loops.{all-not-at}
 use Rattle.levels.specs.Needs.{Stands}
@@ -84,3 +84,8 @@ module _ (n i : ℕ) (levels : List ℕ) (st : Stands n levels i) (c : ℕ) {cou
 
   pub second-stands : {a : ℕ} → a ≡ rule .second i c → Stands n levels a
   second-stands {a} e = let l' = rw many at l in lower a (rw e (rule .second-some i c l')) (rw e (rule .second-below i c l'))
+
+-- agreement at two positions
+pub at-is : (ρ : Rule) (g : Graph) (i : ℕ) (T : ℕ → List ℕ) (p q : ℕ) → agree ρ g i T (p / g .items) (p % g .items) (q / g .items) (q % g .items) ≡ agreeAt ρ g i T p q
+unfolding agreeAt
+at-is ρ g i T p q = refl

@@ -1,12 +1,12 @@
 -- The numbers of a level, and what the search for a midpoint's twin has learnt when it is left.
-use Prim.Native.Nat.{ℕ, zero, suc, _+_, _*_, _-_, _<_}
+use Prim.Native.Nat.{ℕ, zero, suc, _+_, _*_, _-_, _≤_, _<_}
 use mathlib.Core.Path.{_≡_, refl, sym, _∙_}
 use mathlib.Core.List.{List}
 use mathlib.Core.Bool.{Bool, true, false, not, _&&_, _||_, Bool·beq}
 use native.Mathlib.Nat.{suc-mul}
 use native.Mathlib.Omega.{arith}
 use lib.Dec.{eqb}
-use lib.ListN.{getD}
+use lib.ListN.{length, getD}
 use borrow.Author.Tests.{eq-eqb, ne-eqb}
 use Rattle.rules.specs.Finite.{anyBelow, allBelow}
 use Rattle.rules.specs.Graph.{Graph}
@@ -14,7 +14,7 @@ use Rattle.rules.specs.Rule.{rule}
 use Rattle.rules.specs.Levels.{numberAt, levelOf, sameEnds, isTwin, hasTwin, twins}
 use Rattle.rules.proofs.Laws.Tests.{or-left, or-right, not-true-of, and-right, not-both}
 use Rattle.rules.proofs.Laws.Finite.{any-here}
-use Rattle.rules.proofs.Laws.Levels.{entry-get, level-get}
+use Rattle.rules.proofs.Laws.Levels.{entry-get, level-get, level-size}
 
 less-one : (i : ℕ) → suc i - 1 ≡ i
 less-one i = omega arith
@@ -42,6 +42,10 @@ number-get n ls (suc i) v u h hv hu = rw (less-one i) (entry-get n ls i v u hv h
 pub place-get : (n : ℕ) (ls : List ℕ) (i p : ℕ) → 0 < i → p < n * n → getD (levelOf n ls i) p 0 ≡ getD ls ((i - 1) * (n * n) + p) 0
 place-get n ls zero p h hp = absurd (omega arith)
 place-get n ls (suc i) p h hp = rw (less-one i) (level-get n ls i p hp)
+
+pub level-length : (n : ℕ) (ls : List ℕ) (i : ℕ) → 0 < i → i * (n * n) ≤ length ls → length (levelOf n ls i) ≡ n * n
+level-length n ls zero h r = absurd (omega arith)
+level-length n ls (suc i) h r = level-size n ls i r
 
 module _ (n : ℕ) (s t : List ℕ) (v u x y m : ℕ) where
   pub no-midpoint-1 : {a : ℕ} → a ≡ numberAt n s v m → a ≡ 0 → hasTwin n s t v u x y m ≡ true

@@ -3,7 +3,7 @@ use mathlib.Core.List.{List}
 use native.Mathlib.Omega.{arith}
 use lib.ListN.{drop}
 use mathlib.Core.Path.{ap, _∙_}
-use Rattle.levels.proofs.Laws.Areas.{cleared, drop-fill}
+use Rattle.levels.proofs.Laws.Areas.{cleared, drop-fill-at}
 use borrow.Author.Needs.{needs}
 use Rattle.levels.proofs.marks.mark_edges.Statement.{statement}
 use Rattle.levels.proofs.marks.mark_edges.Tie as tie
@@ -25,7 +25,7 @@ returns c =
     let m = c .before .before .add-marks .ensures in
     let n = a .args .n in (
       m .0,
-      m .1 ∙ ap (λ (z : List ℕ). drop (n * n) z) (c .before .before .before .before .before .before .clear-marks .ensures) ∙ drop-fill (n * n) _ (n * n) _ (omega arith),
+      m .1 ∙ ap (λ (z : List ℕ). drop (n * n) z) (c .before .before .before .before .before .before .clear-marks .ensures) ∙ drop-fill-at (n * n) _ 0 (n * n) _ (omega arith),
     )
 
 pub mark-edges-spec : {M : Type 1} → statement M
