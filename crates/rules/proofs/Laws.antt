@@ -15,3 +15,10 @@ pub mod Levels
 pub mod Accepted
 pub mod AllOrNone
 pub mod Builder
+pub mod Entries
+pub mod Lookup
+pub mod Sequences
+pub mod Sound
+pub mod ClassAnswer
+pub mod ClassLists
+pub mod Walks

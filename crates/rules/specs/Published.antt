@@ -68,5 +68,5 @@ pub data Joined (g : Graph) : List ℕ → ℕ → ℕ → Type 0 where
 
 -- a sequence of symbols of l labels
 pub data Symbols (l : ℕ) : List ℕ → Type 0 where
-  none : Symbols l []
+  end : Symbols l []
   symbol : {s : ℕ} {symbols : List ℕ} → 0 < s → s ≤ 2 * l → Symbols l symbols → Symbols l (s ∷ symbols)
