@@ -22,3 +22,6 @@ pub mod Sound
 pub mod ClassAnswer
 pub mod ClassLists
 pub mod Walks
+pub mod Reading
+pub mod Postfix
+pub mod Rules
