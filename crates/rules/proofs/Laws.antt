@@ -25,3 +25,7 @@ pub mod Walks
 pub mod Reading
 pub mod Postfix
 pub mod Rules
+pub mod Verdict
+pub mod Faults
+pub mod Links
+pub mod Calls
