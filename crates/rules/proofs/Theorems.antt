@@ -4,3 +4,4 @@ pub mod Acceptance
 pub mod AllOrNone
 pub mod Stored
 pub mod ClassAnswer
+pub mod Builder

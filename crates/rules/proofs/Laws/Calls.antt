@@ -1,4 +1,4 @@
--- What is known of a check's call that nothing of 1 to 5 refuses.
+-- What is known of a build's and a check's call that nothing of 1 to 5 refuses.
 use Prim.Native.Nat.{ℕ, zero, suc, _*_, _≤_, _<_}
 use mathlib.Core.Path.{_≡_}
 use native.Mathlib.Omega.{arith}
@@ -6,13 +6,14 @@ use lib.ListN.{length}
 use Rattle.rules.specs.Verdict.{good, _orElse_, sizes, levelCount, edgeCount, edgesFit, room}
 use Rattle.rules.specs.Levels.{levelOf}
 use Rattle.rules.specs.Accept.{Index, topOf}
-use Rattle.rules.specs.Outcomes.{CheckCall, checkRefusal}
+use Rattle.rules.specs.Outcomes.{BuildCall, buildRefusal, CheckCall, checkRefusal}
 use Rattle.rules.proofs.Laws.Verdict.{or-else-good}
 use Rattle.rules.proofs.Laws.Links.{SizesFit, sizes-fit, LevelsFit, levels-fit, EdgesWhole, edges-whole, EdgesIn, edges-in, room-fits}
 use Rattle.rules.proofs.Laws.Levels.{level-size}
 
 pub record Passed (c : CheckCall) : Type 0 where
   pub sizes-good : sizes (c .index .items) (c .index .labels) ≡ good
+  pub levels-good : levelCount (c .index .k) ≡ good
   pub count-good : edgeCount (c .edges) ≡ good
   pub edges-good : edgesFit (c .index .items) (c .index .labels) (c .edges) ≡ good
   pub sizes-fit : SizesFit (c .index .items) (c .index .labels)
@@ -38,6 +39,7 @@ passed c e =
     let a = or-else-good area-link level-link (f .1) in
     record {
       sizes-good = s .0;
+      levels-good = k .0;
       count-good = w .0;
       edges-good = f .0;
       sizes-fit = sizes-fit n l (s .0);
@@ -46,6 +48,43 @@ passed c e =
       edges = edges-in n l (c .edges) (f .0);
       area = room-fits (c .area) (9 * (n * n)) (a .0);
       tables = room-fits (x .levels) (x .k * (n * n)) (a .1);
+    }
+
+pub record BuildPassed (c : BuildCall) : Type 0 where
+  pub sizes-good : sizes (c .items) (c .labels) ≡ good
+  pub levels-good : levelCount (c .k) ≡ good
+  pub count-good : edgeCount (c .edges) ≡ good
+  pub edges-good : edgesFit (c .items) (c .labels) (c .edges) ≡ good
+  pub area : 9 * (c .items * c .items) ≤ length (c .area)
+  pub levels : c .k * (c .items * c .items) ≤ length (c .levels)
+  pub order : c .items * c .items ≤ length (c .order)
+  pub starts : suc (c .items * c .items) ≤ length (c .starts)
+
+pub build-passed : (c : BuildCall) → buildRefusal c ≡ good → BuildPassed c
+unfolding buildRefusal
+build-passed c e =
+    let sq = c .items * c .items in
+    let fit-link = edgesFit (c .items) (c .labels) (c .edges) in
+    let area-link = room (c .area) (9 * sq) in
+    let level-link = room (c .levels) (c .k * sq) in
+    let order-link = room (c .order) sq in
+    let start-link = room (c .starts) (suc sq) in
+    let s = or-else-good (sizes (c .items) (c .labels)) (levelCount (c .k) orElse edgeCount (c .edges) orElse fit-link orElse area-link orElse level-link orElse order-link orElse start-link) e in
+    let k = or-else-good (levelCount (c .k)) (edgeCount (c .edges) orElse fit-link orElse area-link orElse level-link orElse order-link orElse start-link) (s .1) in
+    let w = or-else-good (edgeCount (c .edges)) (fit-link orElse area-link orElse level-link orElse order-link orElse start-link) (k .1) in
+    let f = or-else-good fit-link (area-link orElse level-link orElse order-link orElse start-link) (w .1) in
+    let a = or-else-good area-link (level-link orElse order-link orElse start-link) (f .1) in
+    let l = or-else-good level-link (order-link orElse start-link) (a .1) in
+    let o = or-else-good order-link start-link (l .1) in
+    record {
+      sizes-good = s .0;
+      levels-good = k .0;
+      count-good = w .0;
+      edges-good = f .0;
+      area = room-fits (c .area) (9 * sq) (a .0);
+      levels = room-fits (c .levels) (c .k * sq) (l .0);
+      order = room-fits (c .order) sq (o .0);
+      starts = room-fits (c .starts) (suc sq) (o .1);
     }
 
 -- the level-k table has V² numbers

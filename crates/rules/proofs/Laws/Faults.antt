@@ -1,23 +1,22 @@
 -- The check's tests: a level without a first fault is right at each position, and two lists without a difference are the same.
 use Prim.Native.Nat.{ℕ, zero, suc, _*_, _≤_, _<_, min}
 use mathlib.Core.Path.{_≡_, refl, sym, ap, _∙_, subst}
-use mathlib.Core.Logic.{_↔_, ⊎-elim}
+use mathlib.Core.Logic.{⊎-elim}
 use mathlib.Core.List.{List}
-use mathlib.Core.Bool.{Bool, true, false, _&&_, not}
+use mathlib.Core.Bool.{Bool, _&&_, not}
 use native.Mathlib.Nat.{eq-or-lt-of-le}
 use native.Mathlib.Omega.{arith}
-use borrow.Author.Tests.{eqb-true, eq-eqb, ltb-false, le-ltb, not-true, not-false}
+use borrow.Author.Tests.{eqb-true, eq-eqb, ltb-false, le-ltb, not-false}
 use lib.Dec.{eqb, ltb}
 use lib.ListN.{length, getD}
 use lib.Seq.{ext-getD}
 use Rattle.rules.specs.declared.Refusal.{Refusal}
 use Rattle.rules.specs.declared.Refusal.the-variants.{LevelFault}
-use Rattle.rules.specs.Finite.{firstBelow}
 use Rattle.rules.specs.Graph.{Graph}
 use Rattle.rules.specs.Rule.{Rule}
-use Rattle.rules.specs.Verdict.{Verdict, good, _orElse_, when}
+use Rattle.rules.specs.Verdict.{good, when}
 use Rattle.rules.specs.Accept.{levelOk, LevelAccepted, LevelsAccepted, firstFault, levelsRight, difference, sameList}
-use Rattle.rules.proofs.Laws.Tests.{and-left, and-right, not-both}
+use Rattle.rules.proofs.Laws.Tests.{and-left, and-right}
 use Rattle.rules.proofs.Laws.Finite.{none-any, first-none, first-before}
 use Rattle.rules.proofs.Laws.Verdict.{or-else-good, both-good, when-good, good-when}
 

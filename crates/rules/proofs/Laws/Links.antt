@@ -1,14 +1,14 @@
 -- What each link of a chain of refusals says when it refuses nothing, and when it does.
 use Prim.Native.Nat.{ℕ, zero, suc, _+_, _*_, _/_, _%_, _≤_, _<_}
-use mathlib.Core.Path.{_≡_, refl, sym, _∙_}
+use mathlib.Core.Path.{_≡_, refl}
 use mathlib.Core.List.{List}
-use mathlib.Core.Bool.{Bool, true, false, _||_, not}
+use mathlib.Core.Bool.{false, _||_, not}
 use native.Mathlib.Omega.{arith}
-use borrow.Author.Tests.{eqb-true, eqb-false, ltb-false, leb-false, le-ltb, ne-eqb, eq-eqb, not-false}
+use borrow.Author.Tests.{eqb-true, eqb-false, ltb-false, leb-false, le-ltb, ne-eqb, not-false}
 use lib.Dec.{eqb, leb, ltb}
 use lib.ListN.{length, getD}
 use Rattle.rules.specs.declared.Refusal.the-variants.{Sizes, LevelCount, EdgeCount, Edge, Room}
-use Rattle.rules.specs.Verdict.{Verdict, good, when, sizes, levelCount, edgeCount, badEdge, firstBad, edgesFit, room}
+use Rattle.rules.specs.Verdict.{good, sizes, levelCount, edgeCount, badEdge, firstBad, edgesFit, room}
 use Rattle.rules.proofs.Laws.Tests.{or-false-left, or-false-right}
 use Rattle.rules.proofs.Laws.Finite.{first-before}
 use Rattle.rules.proofs.Laws.Verdict.{when-good, good-when}

@@ -1,7 +1,6 @@
 -- Chains of refusals: nothing is refused exactly if no link refuses.
 use Prim.Native.Nat.{ℕ}
-use mathlib.Core.Path.{_≡_, refl, sym, _∙_}
-use mathlib.Core.Logic.{_↔_}
+use mathlib.Core.Path.{_≡_, refl, _∙_}
 use mathlib.Core.Bool.{Bool, true, false}
 use native.Mathlib.Omega.{arith}
 use Rattle.rules.specs.declared.Refusal.{Refusal}

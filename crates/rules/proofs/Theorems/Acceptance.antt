@@ -2,11 +2,9 @@
 use Prim.Native.Nat.{ℕ}
 use mathlib.Core.Path.{_≡_, refl, sym, ap, _∙_}
 use mathlib.Core.Logic.{_↔_}
-use mathlib.Core.List.{List}
 use native.Mathlib.Omega.{arith}
 use Rattle.rules.specs.declared.Refusal.{Refusal}
 use Rattle.rules.specs.declared.Refusal.the-variants.{ListFault, EntryFault}
-use Rattle.rules.specs.declared.Checked.{Checked}
 use Rattle.rules.specs.declared.Checked.the-variants.{Accepted, Refused as NotAccepted}
 use Rattle.rules.specs.Graph.{Graph}
 use Rattle.rules.specs.Rule.{Rule, rule}
@@ -15,7 +13,7 @@ use Rattle.rules.specs.Lists.{startsOf, orderOf, entriesOf}
 use Rattle.rules.specs.Verdict.{Verdict, good, refuse, _orElse_}
 use Rattle.rules.specs.Accept.{Index, topOf, levelsRight, sameList, accepts, Conditions}
 use Rattle.rules.specs.Outcomes.{CheckCall, checkRefusal, checkGraph, told, checkAfter, check}
-use Rattle.rules.proofs.Laws.Verdict.{refuse-good, or-else-good, both-good}
+use Rattle.rules.proofs.Laws.Verdict.{or-else-good, both-good}
 use Rattle.rules.proofs.Laws.Faults.{right-accepted, accepted-right, same-equal, equal-same}
 
 refused-accepted : {C : Type 0} {r : Refusal} → NotAccepted r ≡ Accepted → C

@@ -7,7 +7,7 @@ use Rattle.rules.specs.declared.Checked.the-variants.{Accepted}
 use Rattle.rules.specs.Graph.{graphOf}
 use Rattle.rules.specs.Rule.{rule}
 use Rattle.rules.specs.Levels.{levelOf}
-use Rattle.rules.specs.Query.{Query, diameter, meets}
+use Rattle.rules.specs.Query.{Query, diameter}
 use Rattle.rules.specs.Accept.{topOf}
 use Rattle.rules.specs.Outcomes.{CheckCall, checkGraph, check}
 use Rattle.rules.specs.Published.{WellFormed, Meets}

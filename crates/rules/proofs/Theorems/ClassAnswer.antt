@@ -1,9 +1,8 @@
 -- Demand 3 for class answers: once tables are accepted, a query of diameter at most k gets exactly the classes all of whose pairs meet it.
-use Prim.Native.Nat.{ℕ, _+_, _*_, _/_, _%_, _≤_, _<_}
+use Prim.Native.Nat.{ℕ, _*_, _/_, _%_, _≤_, _<_}
 use mathlib.Core.Path.{_≡_, sym, ap, _∙_, subst}
 use mathlib.Core.Logic.{_↔_}
 use mathlib.Core.List.{List, List·Memᴰ}
-use native.Mathlib.Omega.{arith}
 use lib.ListN.{getD, take}
 use lib.Seq.{getD-take}
 use Rattle.rules.specs.declared.Checked.the-variants.{Accepted}

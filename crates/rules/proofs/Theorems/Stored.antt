@@ -1,26 +1,24 @@
 -- Demand 3, third part: once tables are accepted, any query gets from them, with the same room and area, what the edge table gives: result, answers and area, refusals included.
 use Prim.Native.Nat.{ℕ, _+_, _*_, _≤_, _<_}
-use mathlib.Core.Path.{_≡_, refl, sym, ap, ap₂, _∙_, subst}
+use mathlib.Core.Path.{_≡_, refl, sym, ap, _∙_, subst}
 use mathlib.Core.List.{List}
 use mathlib.Core.Bool.{_&&_}
 use native.Mathlib.Omega.{arith}
 use lib.Dec.{ltb}
-use lib.ListN.{length, getD, take, length-take}
+use lib.ListN.{length, take, length-take}
 use lib.Seq.{getD-take}
-use Rattle.rules.specs.declared.Refusal.{Refusal}
 use Rattle.rules.specs.declared.Checked.the-variants.{Accepted}
 use Rattle.rules.specs.Graph.{Graph, graphOf}
 use Rattle.rules.specs.Rule.{rule}
 use Rattle.rules.specs.Query.{Query}
 use Rattle.rules.specs.Reading.{Reading, asks, fault, readTokens}
 use Rattle.rules.specs.Levels.{numberAt, levelOf}
-use Rattle.rules.specs.Lists.{entriesOf}
-use Rattle.rules.specs.Stored.{stands, storedStep, storedAnswer}
+use Rattle.rules.specs.Stored.{stands, storedStep}
 use Rattle.rules.specs.Verdict.{Verdict, good, refuse, _orElse_, sizes, edgeCount, edgesFit, wellRead, queryOf, room}
 use Rattle.rules.specs.Accept.{topOf}
-use Rattle.rules.specs.Outcomes.{CheckCall, checkGraph, checkRefusal, check, AnswerEnd, answerAfter, DirectCall, directRefusal, directList, direct, StoredCall, storedRefusal, storedList, stored}
+use Rattle.rules.specs.Outcomes.{CheckCall, checkGraph, check, answerAfter, DirectCall, directRefusal, directList, direct, StoredCall, storedRefusal, storedList, stored}
 use Rattle.rules.proofs.Laws.Places.{place-lt}
-use Rattle.rules.proofs.Laws.Verdict.{good-or-else, or-else-good}
+use Rattle.rules.proofs.Laws.Verdict.{good-or-else}
 use Rattle.rules.proofs.Laws.Links.{fits-room}
 use Rattle.rules.proofs.Laws.Calls.{passed, top-length}
 use Rattle.rules.proofs.Laws.Reading.{reading-formed}
