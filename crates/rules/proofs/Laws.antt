@@ -29,3 +29,4 @@ pub mod Verdict
 pub mod Faults
 pub mod Links
 pub mod Calls
+pub mod Dense
