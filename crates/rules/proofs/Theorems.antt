@@ -5,3 +5,7 @@ pub mod AllOrNone
 pub mod Stored
 pub mod ClassAnswer
 pub mod Builder
+pub mod Edges
+pub mod Classes
+pub mod Lists
+pub mod Entries
