@@ -73,6 +73,13 @@ accepts ρ g x =
     orElse sameList (orderOf (topOf x)) (x .order) (ListFault 2)
     orElse sameList (entriesOf g (x .k) (topOf x)) (x .entries) EntryFault
 
+-- the written conditions: every level right, and starts, order and entries exactly the lists that the stored level k gives
+pub record Conditions (ρ : Rule) (g : Graph) (x : Index) : Type 0 where
+  pub levels : LevelsAccepted ρ g (x .k) (levelOf (x .items) (x .levels))
+  pub starts : startsOf (topOf x) ≡ x .starts
+  pub order : orderOf (topOf x) ≡ x .order
+  pub entries : entriesOf g (x .k) (topOf x) ≡ x .entries
+
 -- the index that build writes
 unfoldable pub builtIndex : Rule → Graph → ℕ → Index
 builtIndex ρ g k =

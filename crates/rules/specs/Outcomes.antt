@@ -3,7 +3,7 @@ use Prim.Native.Nat.{ℕ, zero, suc, pred, _+_, _*_, _/_}
 use mathlib.Core.List.{List, [], _++_}
 use mathlib.Core.Bool.{Bool, true, false, _||_, not, cond}
 use lib.Dec.{eqb, leb, ltb}
-use lib.ListN.{length, getD, drop}
+use lib.ListN.{length, getD, take, drop}
 use lib.Seq.{slice}
 use Rattle.rules.specs.declared.Refusal.{Refusal}
 use Rattle.rules.specs.declared.Refusal.the-variants.{EntryRoom, AnswerRoom, NoClass}
@@ -102,6 +102,19 @@ buildAfter c (refuse r) = buildNothing c r
 
 unfoldable pub build : BuildCall → BuildEnd
 build c = buildAfter c (buildRefusal c)
+
+-- what build wrote, its lists cut to the counts that it returned: so they are handed to the check
+unfoldable pub handedOver : BuildCall → ℕ → ℕ → ℕ → Index
+handedOver c classes pairs entries =
+    record {
+      items = c .items;
+      labels = c .labels;
+      k = c .k;
+      levels = build c .levels;
+      starts = take (suc classes) (build c .starts);
+      order = take pairs (build c .order);
+      entries = take (2 * entries) (build c .entries);
+    }
 
 -- check
 pub record CheckCall : Type 0 where

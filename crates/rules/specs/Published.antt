@@ -1,12 +1,21 @@
 -- The published definitions as types, beside the tests of the other files: source document 001, section III.B, Definitions 4.1 and 4.3, as document 01 writes them out.
-use Prim.Native.Nat.{ℕ, zero, suc, _+_, _*_, _≤_, _<_}
+use Prim.Native.Nat.{ℕ, zero, suc, _+_, _*_, _/_, _≤_, _<_}
 use mathlib.Core.Path.{_≡_}
-use mathlib.Core.Logic.{_↔_, _⊎_}
+use mathlib.Core.Logic.{_↔_}
 use mathlib.Core.List.{List, [], _∷_}
 use mathlib.Core.Bool.{true}
+use lib.ListN.{length, getD}
 use Rattle.rules.specs.Graph.{Graph}
 use Rattle.rules.specs.Rule.{Rule}
 use Rattle.rules.specs.Query.{Atom, identity, step, Query, atom, join, both}
+
+-- an edge from v to u along label l stands in the edge table
+pub record InTable (edges : List ℕ) (v u l : ℕ) : Type 0 where
+  pub at : ℕ
+  pub in-table : at < length edges / 3
+  pub source : getD edges (3 * at) 0 ≡ v
+  pub target : getD edges (3 * at + 1) 0 ≡ u
+  pub label : getD edges (3 * at + 2) 0 ≡ l
 
 -- a step: along label l, an edge from v to u; against it, an edge from u to v
 pub data Step (g : Graph) : ℕ → ℕ → ℕ → Type 0 where
@@ -68,5 +77,5 @@ pub data Joined (g : Graph) : List ℕ → ℕ → ℕ → Type 0 where
 
 -- a sequence of symbols of l labels
 pub data Symbols (l : ℕ) : List ℕ → Type 0 where
-  none : Symbols l []
+  end : Symbols l []
   symbol : {s : ℕ} {symbols : List ℕ} → 0 < s → s ≤ 2 * l → Symbols l symbols → Symbols l (s ∷ symbols)

@@ -1,6 +1,6 @@
 -- How a token list is read, operands first, and which fault is found first.
-use Prim.Native.Nat.{ℕ, zero, suc, _*_}
-use mathlib.Core.List.{List, [], _∷_}
+use Prim.Native.Nat.{ℕ, suc, _*_, max}
+use mathlib.Core.List.{List, [], _∷_, _++_}
 use mathlib.Core.Bool.{Bool, _&&_, cond}
 use lib.Dec.{eqb, leb, ltb}
 use lib.ListN.{length}
@@ -8,7 +8,7 @@ use Rattle.rules.specs.declared.Refusal.{Refusal}
 use Rattle.rules.specs.declared.Refusal.the-variants.{QueryLength, Unknown as UnknownAt, FewOperands, NinthOperand, OperandsLeft}
 use Rattle.rules.specs.declared.Token.{Token}
 use Rattle.rules.specs.declared.Token.the-variants.{Identity, Step, Join, Conjunction, Unknown}
-use Rattle.rules.specs.Query.{Query, atom, join, both, identity, step}
+use Rattle.rules.specs.Query.{Atom, Query, atom, join, both, identity, step}
 
 -- token 0 is identity, 1..2L steps, 32 join, 33 conjunction, all else unknown
 unfoldable pub tokenOf : ℕ → ℕ → Token
@@ -22,7 +22,7 @@ pub data Reading : Type 0 where
 
 -- an operand waits, if fewer than eight do; the latest stands first
 unfoldable pub push : Query → List Query → ℕ → (List Query → Reading) → Reading
-push q waiting at next = cond (ltb (length waiting) 8) (next (q ∷ waiting)) (fault (NinthOperand at))
+push q ws at next = cond (ltb (length ws) 8) (next (q ∷ ws)) (fault (NinthOperand at))
 
 -- the last two operands become one, the earlier one first
 unfoldable pub fold2 : (Query → Query → Query) → List Query → ℕ → (List Query → Reading) → Reading
@@ -52,3 +52,20 @@ readFrom labels (t ∷ tokens) at waiting = act (tokenOf labels t) waiting at (�
 -- 1 to 64 tokens
 unfoldable pub readTokens : ℕ → List ℕ → Reading
 readTokens labels tokens = cond (ltb 0 (length tokens) && leb (length tokens) 64) (readFrom labels tokens 0 []) (fault QueryLength)
+
+-- the token of an atom
+unfoldable pub spell : Atom → ℕ
+spell identity = 0
+spell (step s) = s
+
+-- a query written operands first
+unfoldable pub tokens : Query → List ℕ
+tokens (atom a) = spell a ∷ []
+tokens (join p q) = tokens p ++ (tokens q ++ (32 ∷ []))
+tokens (both p q) = tokens p ++ (tokens q ++ (33 ∷ []))
+
+-- how many operands wait at once, at most
+unfoldable pub waiting : Query → ℕ
+waiting (atom a) = 1
+waiting (join p q) = max (waiting p) (suc (waiting q))
+waiting (both p q) = max (waiting p) (suc (waiting q))

@@ -11,19 +11,11 @@ use borrow.Author.Tests.{eqb-true, eqb-false, eq-eqb, ne-eqb}
 use lib.Dec.{eqb}
 use lib.ListN.{length, getD}
 use Rattle.rules.specs.Graph.{Graph, edgeIs, hasEdge, leads, adjacent, connected}
-use Rattle.rules.specs.Published.{Step, along, against, Walk, stay, further}
+use Rattle.rules.specs.Published.{InTable, Step, along, against, Walk, stay, further}
 use Rattle.rules.proofs.Laws.Tests.{either, and-left, and-right, and-intro, or-cases, or-left, or-right}
 use Rattle.rules.proofs.Laws.Finite.{any-find, any-here}
 
--- an edge of the table, as a proposition
-pub record Edge (es : List ℕ) (v u l : ℕ) : Type 0 where
-  pub at : ℕ
-  pub in-table : at < length es / 3
-  pub source : getD es (3 * at) 0 ≡ v
-  pub target : getD es (3 * at + 1) 0 ≡ u
-  pub label : getD es (3 * at + 2) 0 ≡ l
-
-pub edge-find : (es : List ℕ) (v u l : ℕ) → hasEdge es v u l ≡ true → Edge es v u l
+pub edge-find : (es : List ℕ) (v u l : ℕ) → hasEdge es v u l ≡ true → InTable es v u l
 unfolding hasEdge edgeIs
 edge-find es v u l h =
     let r = any-find (length es / 3) (λ e. edgeIs es e v u l) h in
@@ -37,13 +29,13 @@ edge-find es v u l h =
       label = eqb-true (getD es (3 * e + 2) 0) l (and-right (eqb (getD es (3 * e) 0) v && eqb (getD es (3 * e + 1) 0) u) (eqb (getD es (3 * e + 2) 0) l) (r .2));
     }
 
-pub edge-here : (es : List ℕ) (v u l : ℕ) → Edge es v u l → hasEdge es v u l ≡ true
+pub edge-here : (es : List ℕ) (v u l : ℕ) → InTable es v u l → hasEdge es v u l ≡ true
 unfolding hasEdge edgeIs
 edge-here es v u l h =
     any-here (length es / 3) (λ e. edgeIs es e v u l) (h .at) (h .in-table)
     (and-intro _ _ (and-intro _ _ (eq-eqb _ _ (h .source)) (eq-eqb _ _ (h .target))) (eq-eqb _ _ (h .label)))
 
-pub edge-iff : (es : List ℕ) (v u l : ℕ) → (hasEdge es v u l ≡ true) ↔ Edge es v u l
+pub edge-iff : (es : List ℕ) (v u l : ℕ) → (hasEdge es v u l ≡ true) ↔ InTable es v u l
 edge-iff es v u l = (edge-find es v u l, edge-here es v u l)
 
 module _ (g : Graph) where

@@ -1,0 +1,11 @@
+pub mod Determined
+pub mod Meaning
+pub mod Acceptance
+pub mod AllOrNone
+pub mod Stored
+pub mod ClassAnswer
+pub mod Builder
+pub mod Edges
+pub mod Classes
+pub mod Lists
+pub mod Entries
