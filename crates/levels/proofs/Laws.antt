@@ -7,3 +7,6 @@ pub mod Reach
 pub mod Numbers
 pub mod Level
 pub mod Right
+pub mod Same
+pub mod Stack
+pub mod Built

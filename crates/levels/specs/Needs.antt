@@ -4,9 +4,12 @@ use mathlib.Core.Path.{_≡_}
 use mathlib.Core.List.{List}
 use mathlib.Core.Bool.{Bool}
 use lib.ListN.{length, getD, take, drop}
+use Rattle.rules.specs.declared.Checked.{Checked}
+use Rattle.rules.specs.Graph.{graphOf}
 use Rattle.rules.specs.Rule.{rule}
-use Rattle.rules.specs.Levels.{connectedAt, agreeAt, levelOf, maxOf, numbering, levelOver}
-use Rattle.rules.specs.Accept.{LevelsAccepted, firstFault}
+use Rattle.rules.specs.Levels.{builtLevel, builtLevels, connectedAt, agreeAt, levelOf, maxOf, numbering, levelOver}
+use Rattle.rules.specs.Accept.{LevelsAccepted, firstFault, levelsRight}
+use Rattle.rules.specs.Outcomes.{front, told}
 use Rattle.rules.specs.Writing.{put}
 use Rattle.levels.specs.Marks.{markedGraph, oneIf}
 
@@ -24,11 +27,11 @@ pub record Stands (n : ℕ) (levels : List ℕ) (i : ℕ) : Type 0 where
   pub some : 0 < i
   pub room : i * (n * n) ≤ length levels
 
--- every edge joins two of n items along one of eight labels
-pub record EdgesFit (n : ℕ) (edges : List ℕ) : Type 0 where
+-- every edge joins two of n items along one of so many labels
+pub record EdgesFit (n labels : ℕ) (edges : List ℕ) : Type 0 where
   pub source : (e : ℕ) → e < length edges / 3 → getD edges (3 * e) 0 < n
   pub target : (e : ℕ) → e < length edges / 3 → getD edges (3 * e + 1) 0 < n
-  pub label : (e : ℕ) → e < length edges / 3 → getD edges (3 * e + 2) 0 < 8
+  pub label : (e : ℕ) → e < length edges / 3 → getD edges (3 * e + 2) 0 < labels
 
 -- level i can be numbered or checked: there is room, and the levels below are right
 pub record Ready (n i : ℕ) (levels area : List ℕ) : Type 0 where
@@ -69,7 +72,7 @@ pub record Seen (n i : ℕ) (levels : List ℕ) (p top : ℕ) : Type 0 where
   pub largest : top ≡ maxOf (take p (levelOf n levels i))
   pub small : top ≤ p
 
--- of the area, the marks and what lies past the first 9·n² bytes are as they were
+-- of the area the marks and what lies past the first 9·n² bytes are as they were
 pub record Kept (n : ℕ) (area area' : List ℕ) : Type 0 where
   pub marks : take (n * n) area' ≡ take (n * n) area
   pub rest : drop (9 * (n * n)) area' ≡ drop (9 * (n * n)) area
@@ -93,3 +96,37 @@ pub record Faulty (n i : ℕ) (levels area : List ℕ) (r : ℕ) (area' : List �
 pub record Cleared (n : ℕ) (area : List ℕ) : Type 0 where
   pub room : n * n ≤ length area
   pub zero-at : (q : ℕ) → q < n * n → getD area q 0 ≡ 0
+
+-- there is room for k levels of n items, and for the work
+pub record Room (n k : ℕ) (levels area : List ℕ) : Type 0 where
+  pub few : n ≤ 128
+  pub short : k ≤ 4
+  pub levels-room : k * (n * n) ≤ length levels
+  pub area-room : 9 * (n * n) ≤ length area
+
+-- levels 1 to k are numbered over the marks
+pub record Stacked (n k : ℕ) (levels area : List ℕ) (r : ℕ) (levels' area' : List ℕ) : Type 0 where
+  pub count : r ≡ maxOf (builtLevel rule (markedGraph n area) k)
+  pub written : levels' ≡ front (builtLevels rule (markedGraph n area) k) levels
+  pub kept : Kept n area area'
+
+-- levels 1 to k are checked over the marks
+pub record Judged (n k : ℕ) (levels area : List ℕ) (r : Checked) (area' : List ℕ) : Type 0 where
+  pub verdict : r ≡ told (levelsRight rule (markedGraph n area) k (levelOf n levels))
+  pub kept : Kept n area area'
+
+-- past its first 9·n² bytes the area is as it was
+pub record Past (n : ℕ) (area area' : List ℕ) : Type 0 where
+  pub rest : drop (9 * (n * n)) area' ≡ drop (9 * (n * n)) area
+  pub size : length area' ≡ length area
+
+-- build_levels: the levels of the edge table stand at the front, and the answer is how many classes level k has
+pub record LevelsBuilt (n k : ℕ) (edges levels area : List ℕ) (r : ℕ) (levels' area' : List ℕ) : Type 0 where
+  pub count : (labels : ℕ) → labels ≤ 8 → EdgesFit n labels edges → r ≡ maxOf (builtLevel rule (graphOf n labels edges) k)
+  pub written : (labels : ℕ) → labels ≤ 8 → EdgesFit n labels edges → levels' ≡ front (builtLevels rule (graphOf n labels edges) k) levels
+  pub past : Past n area area'
+
+-- check_levels: 15 with the first faulty level and position, or none
+pub record LevelsChecked (n k : ℕ) (edges levels area : List ℕ) (r : Checked) (area' : List ℕ) : Type 0 where
+  pub verdict : (labels : ℕ) → labels ≤ 8 → EdgesFit n labels edges → r ≡ told (levelsRight rule (graphOf n labels edges) k (levelOf n levels))
+  pub past : Past n area area'

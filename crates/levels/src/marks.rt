@@ -31,7 +31,7 @@ fn clear_marks(n: usize, area: &mut [u8])
 
 // For each pair the labels that lead from its first item to its second.
 fn add_marks(n: usize, edges: &[u32], area: &mut [u8])
-    requires { ⌜ (EdgesFit n (now edges)) × (Cleared n (now area)) ⌝ }
+    requires { ⌜ (EdgesFit n 8 (now edges)) × (Cleared n (now area)) ⌝ }
     ensures { λ _. ⌜ (Marked n (now (edges .entry)) (now (area .exit))) × (drop (n * n) (now (area .exit)) ≡ drop (n * n) (now (area .entry))) ⌝ }
 {
     let count = edges.len() / 3;
@@ -48,7 +48,7 @@ fn add_marks(n: usize, edges: &[u32], area: &mut [u8])
 
 // The marks of the edge table, whatever stood in the area.
 pub fn mark_edges(n: usize, edges: &[u32], area: &mut [u8])
-    requires { ⌜ (EdgesFit n (now edges)) × (Marks n (now area)) ⌝ }
+    requires { ⌜ (EdgesFit n 8 (now edges)) × (Marks n (now area)) ⌝ }
     ensures { λ _. ⌜ (Marked n (now (edges .entry)) (now (area .exit))) × (drop (n * n) (now (area .exit)) ≡ drop (n * n) (now (area .entry))) ⌝ }
 {
     clear_marks(n, area);

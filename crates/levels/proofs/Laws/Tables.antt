@@ -16,7 +16,7 @@ use Rattle.rules.proofs.Laws.Tests.{or-left, or-right, not-true-of, and-right, 
 use Rattle.rules.proofs.Laws.Finite.{any-here}
 use Rattle.rules.proofs.Laws.Levels.{entry-get, level-get, level-size}
 
-less-one : (i : ℕ) → suc i - 1 ≡ i
+pub less-one : (i : ℕ) → suc i - 1 ≡ i
 less-one i = omega arith
 
 -- the rule in force, as the code has it
