@@ -10,3 +10,9 @@ pub mod Right
 pub mod Same
 pub mod Stack
 pub mod Built
+pub mod Words
+pub mod Chains
+pub mod Signature
+pub mod Walk
+pub mod Taken
+pub mod Turn

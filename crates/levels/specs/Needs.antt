@@ -7,11 +7,12 @@ use lib.ListN.{length, getD, take, drop}
 use Rattle.rules.specs.declared.Checked.{Checked}
 use Rattle.rules.specs.Graph.{graphOf}
 use Rattle.rules.specs.Rule.{rule}
-use Rattle.rules.specs.Levels.{builtLevel, builtLevels, connectedAt, agreeAt, levelOf, maxOf, numbering, levelOver}
+use Rattle.rules.specs.Levels.{nextNumber, builtLevel, builtLevels, connectedAt, agreeAt, levelOf, maxOf, numbering, levelOver}
 use Rattle.rules.specs.Accept.{LevelsAccepted, firstFault, levelsRight}
 use Rattle.rules.specs.Outcomes.{front, told}
 use Rattle.rules.specs.Writing.{put}
 use Rattle.levels.specs.Marks.{markedGraph, oneIf}
+use Rattle.levels.specs.Chains.{Chains, bucketOf}
 
 -- a pair of items
 pub record Pair (n v u : ℕ) : Type 0 where
@@ -130,3 +131,20 @@ pub record LevelsBuilt (n k : ℕ) (edges levels area : List ℕ) (r : ℕ) (lev
 pub record LevelsChecked (n k : ℕ) (edges levels area : List ℕ) (r : Checked) (area' : List ℕ) : Type 0 where
   pub verdict : (labels : ℕ) → labels ≤ 8 → EdgesFit n labels edges → r ≡ told (levelsRight rule (graphOf n labels edges) k (levelOf n levels))
   pub past : Past n area area'
+
+-- of the area the marks, the bytes of connected pairs, and what lies past the first 9·n² bytes are as they were
+pub record Steady (n : ℕ) (area area' : List ℕ) : Type 0 where
+  pub front : take (2 * (n * n)) area' ≡ take (2 * (n * n)) area
+  pub rest : drop (9 * (n * n)) area' ≡ drop (9 * (n * n)) area
+  pub size : length area' ≡ length area
+
+-- the number of position p, and the chains with p in them
+pub record Taken (n i : ℕ) (levels area : List ℕ) (p r : ℕ) (area' : List ℕ) : Type 0 where
+  pub number : r ≡ nextNumber (isIn n i area) (alike n i levels area) (take p (drop (base n i) levels)) p
+  pub chains : Chains (isIn n i area) (alike n i levels area) (bucketOf n i levels area) n area' (p + 1)
+  pub steady : Steady n area area'
+
+-- the numbers of level i in their place
+pub record Positioned (n i : ℕ) (levels area : List ℕ) (r : ℕ) (levels' area' : List ℕ) : Type 0 where
+  pub placed : Placed n i levels area r levels'
+  pub steady : Steady n area area'

@@ -60,7 +60,7 @@ pub fn same_ends(v: usize, u: usize, x: usize, y: usize) -> bool
 }
 
 // How many splits of midpoints level i has.
-fn splits(i: usize) -> usize
+pub fn splits(i: usize) -> usize
     ensures { λ r. ⌜ r ≡ rule .many i ⌝ }
 {
     if 1 < i {
@@ -70,7 +70,7 @@ fn splits(i: usize) -> usize
 }
 
 // The level of the first half in split c of level i.
-fn first_level(i: usize, c: usize) -> usize
+pub fn first_level(i: usize, c: usize) -> usize
     requires { ⌜ 0 < i ⌝ }
     ensures { λ r. ⌜ r ≡ rule .first i c ⌝ }
 {
@@ -78,7 +78,7 @@ fn first_level(i: usize, c: usize) -> usize
 }
 
 // The level of the second half in split c of level i.
-fn second_level(i: usize, c: usize) -> usize
+pub fn second_level(i: usize, c: usize) -> usize
     requires { ⌜ 0 < i ⌝ }
     ensures { λ r. ⌜ r ≡ rule .second i c ⌝ }
 {

@@ -1,6 +1,7 @@
 // The level tables: step marks, agreement of two pairs, numbering a level, checking a level.
 pub mod agree;
 pub mod all;
+mod chains;
 pub mod check;
 pub mod marks;
 pub mod near;

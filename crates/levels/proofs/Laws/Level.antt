@@ -77,6 +77,9 @@ module _ (n i : ℕ) (l area : List ℕ) (ready : Ready n i l area) where
     pub still-ready : Ready n i l' area
     still-ready = rw e (ready-kept (numbers p) fits)
 
+    pub same-below : (j : ℕ) → j < i → levelOf n l' j ≡ levelOf n l j
+    same-below j b = rw e (level-kept n l (base n i) (numbers p) j (below-base j b) (omega (arith, ends)))
+
     pub same-alike : alike n i l' area ≡ alike n i l area
     same-alike = rw e (alike-kept (numbers p))
 

@@ -57,14 +57,14 @@ module _ (n : ℕ) (w : List ℕ) where
     edges-bytes a b h = bits-ext 8 _ _ a b (λ l i. sym (edge-bit v u l hv hu) ∙ h l i ∙ edge-bit x y l hx hy)
 
     -- the same step symbols: equal marks there, and back
-    steps-there : getD w (v * n + u) 0 < 256 → getD w (x * n + y) 0 < 256 → sameSteps (markedGraph n w) v u x y ≡ true
+    pub steps-there : getD w (v * n + u) 0 < 256 → getD w (x * n + y) 0 < 256 → sameSteps (markedGraph n w) v u x y ≡ true
         → getD w (v * n + u) 0 ≡ getD w (x * n + y) 0
     steps-there a b t =
         let g = markedGraph n w in
         edges-bytes a b
         (λ l h. sym (leads-forward g l v u) ∙ leads-same g v u x y t (2 * l + 1) (omega arith) (omega arith) ∙ leads-forward g l x y)
 
-  steps-back : (v u x y : ℕ) → v < n → u < n → x < n → y < n → getD w (u * n + v) 0 < 256 → getD w (y * n + x) 0 < 256
+  pub steps-back : (v u x y : ℕ) → v < n → u < n → x < n → y < n → getD w (u * n + v) 0 < 256 → getD w (y * n + x) 0 < 256
       → sameSteps (markedGraph n w) v u x y ≡ true → getD w (u * n + v) 0 ≡ getD w (y * n + x) 0
   steps-back v u x y hv hu hx hy a b t =
       let g = markedGraph n w in

@@ -1,18 +1,19 @@
 -- One position more of a numbering, as the code makes it.
 use Prim.Native.Nat.{ℕ, zero, suc, _+_, _≤_, _<_, max}
-use mathlib.Core.Path.{_≡_, refl, ap₂}
+use mathlib.Core.Path.{_≡_, refl, sym, ap₂, _∙_}
 use mathlib.Core.List.{List, [], _∷_, _++_}
 use mathlib.Core.Bool.{Bool, true, false, _&&_, cond}
 use native.Mathlib.Numerals.{add-one}
 use native.Mathlib.Omega.{arith}
 use lib.Dec.{ltb}
 use lib.ListN.{getD}
+use lib.Seq.{getD-at}
 use borrow.Author.Tests.{lt-ltb, le-ltb}
-use Rattle.rules.specs.Finite.{firstBelow}
+use Rattle.rules.specs.Finite.{anyBelow, firstBelow}
 use Rattle.rules.specs.Levels.{matches, nextNumber, numbering, maxOf}
 use Rattle.rules.proofs.Laws.Tests.{and-right, not-true-of, not-both}
-use Rattle.rules.proofs.Laws.Finite.{any-same}
-use Rattle.rules.proofs.Laws.Numbering.{max-bounds}
+use Rattle.rules.proofs.Laws.Finite.{any-same, first-none}
+use Rattle.rules.proofs.Laws.Numbering.{max-bounds, number, numbering-at, numbering-length, related-same}
 
 pub max-snoc : (ns : List ℕ) (k : ℕ) → maxOf (ns ++ (k ∷ [])) ≡ max (maxOf ns) k
 unfolding maxOf
@@ -79,3 +80,18 @@ module _ (c c' : ℕ → Bool) (r r' : ℕ → ℕ → Bool) where
   numbering-same (suc n) h k =
       let e = numbering-same n (λ q l. h q (omega arith)) (λ q p l j. k q p (omega arith) (omega arith)) in
       rw (e, next-same-as (numbering c' r' n) n h (λ q l. k q n (omega arith) (omega arith))) refl
+
+number-is : (c : ℕ → Bool) (r : ℕ → ℕ → Bool) (p : ℕ) → nextNumber c r (numbering c r p) p ≡ number c r p
+unfolding numbering
+number-is c r p = sym (getD-at (numbering c r p) (nextNumber c r (numbering c r p) p) [] 0 p (numbering-length c r p)) ∙ numbering-at c r (suc p) p (omega arith)
+
+-- any earlier position alike p has the number of p
+pub next-alike : (c : ℕ → Bool) (r : ℕ → ℕ → Bool)
+    → (r-refl : (p : ℕ) → r p p ≡ true) → (r-sym : (p q : ℕ) → r p q ≡ true → r q p ≡ true) → (r-trans : (p q s : ℕ) → r p q ≡ true → r q s ≡ true → r p s ≡ true)
+    → (p q : ℕ) → c p ≡ true → q < p → c q ≡ true → r q p ≡ true → getD (numbering c r p) q 0 ≡ nextNumber c r (numbering c r p) p
+next-alike c r r-refl r-sym r-trans p q cp l cq a =
+    numbering-at c r p q l ∙ related-same c r r-refl r-sym r-trans q p cq cp a ∙ sym (number-is c r p)
+
+-- and where none is, it is a new one
+pub next-none : (c : ℕ → Bool) (r : ℕ → ℕ → Bool) (ns : List ℕ) (p top : ℕ) → c p ≡ true → anyBelow p (matches c r p) ≡ false → top ≡ maxOf ns → top + 1 ≡ nextNumber c r ns p
+next-none c r ns p top h none m = next-new c r ns p h (sym (first-none p (matches c r p) none)) (omega arith) m
