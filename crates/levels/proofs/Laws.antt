@@ -16,3 +16,4 @@ pub mod Signature
 pub mod Walk
 pub mod Taken
 pub mod Turn
+pub mod Firsts

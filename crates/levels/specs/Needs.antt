@@ -1,5 +1,5 @@
 -- What callers show, as records with named parts, and what the functions of levels leave.
-use Prim.Native.Nat.{ℕ, _+_, _*_, _/_, _-_, _≤_, _<_}
+use Prim.Native.Nat.{ℕ, suc, _+_, _*_, _/_, _-_, _≤_, _<_, max}
 use mathlib.Core.Path.{_≡_}
 use mathlib.Core.List.{List}
 use mathlib.Core.Bool.{Bool}
@@ -7,12 +7,12 @@ use lib.ListN.{length, getD, take, drop}
 use Rattle.rules.specs.declared.Checked.{Checked}
 use Rattle.rules.specs.Graph.{graphOf}
 use Rattle.rules.specs.Rule.{rule}
-use Rattle.rules.specs.Levels.{nextNumber, builtLevel, builtLevels, connectedAt, agreeAt, levelOf, maxOf, numbering, levelOver}
+use Rattle.rules.specs.Levels.{firstOf, nextNumber, builtLevel, builtLevels, connectedAt, agreeAt, levelOf, maxOf, numbering, levelOver}
 use Rattle.rules.specs.Accept.{LevelsAccepted, firstFault, levelsRight}
 use Rattle.rules.specs.Outcomes.{front, told}
 use Rattle.rules.specs.Writing.{put}
 use Rattle.levels.specs.Marks.{markedGraph, oneIf}
-use Rattle.levels.specs.Chains.{Chains, bucketOf}
+use Rattle.levels.specs.Chains.{word, setWord, Chains, bucketOf}
 
 -- a pair of items
 pub record Pair (n v u : ℕ) : Type 0 where
@@ -147,4 +147,19 @@ pub record Taken (n i : ℕ) (levels area : List ℕ) (p r : ℕ) (area' : List 
 -- the numbers of level i in their place
 pub record Positioned (n i : ℕ) (levels area : List ℕ) (r : ℕ) (levels' area' : List ℕ) : Type 0 where
   pub placed : Placed n i levels area r levels'
+  pub steady : Steady n area area'
+
+-- the first position of each number up to top stands in the area
+pub record Firsts (n i : ℕ) (levels area : List ℕ) (top : ℕ) : Type 0 where
+  pub first-at : (k : ℕ) → k < top → word area (2 * (n * n) + 2 * k) ≡ firstOf (n * n) (levelOf n levels i) (suc k)
+
+-- the largest of top and c; where c is larger, p is stored for it
+pub record Noted (n : ℕ) (area : List ℕ) (p c top r : ℕ) (area' : List ℕ) : Type 0 where
+  pub largest : r ≡ max top c
+  pub old : c ≤ top → area' ≡ area
+  pub new : top < c → area' ≡ setWord area (2 * (n * n) + 2 * top) p
+
+-- the positions of level i are checked: the first faulty one, or n·n
+pub record Passed (n i : ℕ) (levels area : List ℕ) (r : ℕ) (area' : List ℕ) : Type 0 where
+  pub fault : r ≡ firstFault rule (markedGraph n area) i (levelOf n levels)
   pub steady : Steady n area area'

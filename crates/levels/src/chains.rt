@@ -14,7 +14,7 @@ use super::agree::splits;
 use super::marks::mark_at;
 
 // Two bytes as one number.
-fn word_at(area: &[u8], at: usize) -> usize
+pub fn word_at(area: &[u8], at: usize) -> usize
     requires { ⌜ at + 1 < length (now area) ⌝ }
     ensures { λ r. ⌜ (r ≡ word (now (area .entry)) at) × (r < 65536) ⌝ }
 {
@@ -22,7 +22,7 @@ fn word_at(area: &[u8], at: usize) -> usize
 }
 
 // A number in two bytes.
-fn set_word(area: &mut [u8], at: usize, x: usize)
+pub fn set_word(area: &mut [u8], at: usize, x: usize)
     requires { ⌜ (at + 1 < length (now area)) × (x < 65536) ⌝ }
     ensures { λ _. ⌜ now (area .exit) ≡ setWord (now (area .entry)) at x ⌝ }
 {

@@ -3,7 +3,7 @@ use Prim.Native.Nat.{ℕ, _+_, _*_, _/_, _%_, _≤_, _<_}
 use mathlib.Core.Path.{_≡_, refl, sym, ap, ap₂, _∙_, fun-ext}
 use mathlib.Core.Logic.{_⊎_, inl, inr, ⊎-elim}
 use mathlib.Core.List.{List}
-use mathlib.Core.Bool.{true, false, cond}
+use mathlib.Core.Bool.{Bool, true, false, cond}
 use native.Mathlib.Nat.{eq-zero-or-pos}
 use native.Mathlib.Omega.{arith}
 use lib.Dec.{eqb}
@@ -15,8 +15,10 @@ use Rattle.rules.specs.Levels.{levelOf, nextNumber}
 use Rattle.rules.specs.Writing.{put, fill}
 use Rattle.rules.proofs.Laws.Tests.{either}
 use Rattle.rules.proofs.Laws.Writing.{getD-fill-in, length-fill}
+use Rattle.rules.specs.Accept.{levelOk}
+use Rattle.levels.specs.Marks.{markedGraph}
 use Rattle.levels.specs.Chains.{word, headOf, keyOf, midHash, mostBelow, mostOf, bucketOf, Chains}
-use Rattle.levels.specs.Needs.{Ready, Near, Begun, Kept, Steady, Positioned, Numbered, base, isIn, alike, nearByte}
+use Rattle.levels.specs.Needs.{Ready, Near, Begun, Kept, Steady, Positioned, Numbered, Passed, Faulty, base, isIn, alike, nearByte}
 use Rattle.levels.proofs.Laws.Areas.{edges-kept, byte-kept, ready-area, placed-kept, take-fill, drop-fill-at, near-kept}
 use Rattle.levels.proofs.Laws.Level.{numbers, still-ready, same-below, same-alike}
 use Rattle.levels.proofs.Laws.Chains.{chains-start}
@@ -123,3 +125,17 @@ module _ (n i : ℕ) (l w w' w'' : List ℕ) (ready : Ready n i l w) (near : w' 
         placed = placed-kept n i l w w'' r l' (steady-marks n w' w'' (clear-steady n w' w'' clear) ∙ k .marks) (d .placed);
         kept = record { marks = m ∙ k .marks; rest = s .rest ∙ k .rest; size = s .size ∙ k .size };
       }
+
+-- a position is right by the marks, which stay
+pub ok-kept : (n i : ℕ) (l w w' : List ℕ) (p : ℕ) {b : Bool} → Steady n w w' → b ≡ levelOk rule (markedGraph n w') i (levelOf n l) p → b ≡ levelOk rule (markedGraph n w) i (levelOf n l) p
+ok-kept n i l w w' p s e = rw (edges-kept n w w' (steady-marks n w w' s)) at e
+
+-- check_level, from what its parts leave
+pub level-faulty : (n i : ℕ) (l w w' : List ℕ) (r : ℕ) (v : List ℕ) → Ready n i l w → w' ≡ fill w (n * n) (n * n) (nearByte n i w) → Passed n i l w' r v → Faulty n i l w r v
+level-faulty n i l w w' r v ready near d =
+    let k = near-kept n i w w' near (ready .area-room) .1 in
+    let s = steady-kept n w' v (d .steady) in
+    record {
+      fault = rw (edges-kept n w w' (k .marks)) at (d .fault);
+      kept = record { marks = s .marks ∙ k .marks; rest = s .rest ∙ k .rest; size = s .size ∙ k .size };
+    }

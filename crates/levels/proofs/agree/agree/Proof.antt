@@ -50,8 +50,8 @@ twins-requires c κs =
     let a = s .before .before .before .before .before .before .before in (
       first-stands _ _ _ (a .pre .0) _ (s .splits .ensures) (b .before .loop-test .taken) (b .first-level .ensures),
       second-stands _ _ _ (a .pre .0) _ (s .splits .ensures) (b .before .loop-test .taken) (c .second-level .ensures),
-      a .pre .2,
-      a .pre .3,
+      search needs,
+      search needs,
     )
 
 returns-3 : tie.Need-returns-3 Inv-loop μ-loop
@@ -70,8 +70,8 @@ twins-requires-2 c κs =
     let a = s .before .before .before .before .before .before .before in (
       first-stands _ _ _ (a .pre .0) _ (s .splits .ensures) (b .before .loop-test .taken) (b .first-level .ensures),
       second-stands _ _ _ (a .pre .0) _ (s .splits .ensures) (b .before .loop-test .taken) (d .second-level .ensures),
-      a .pre .3,
-      a .pre .2,
+      search needs,
+      search needs,
     )
 
 returns-4 : tie.Need-returns-4 Inv-loop μ-loop

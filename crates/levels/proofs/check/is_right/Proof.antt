@@ -1,15 +1,17 @@
-use Prim.Native.Nat.{_*_}
-use mathlib.Core.Path.{sym, ap, _∙_}
+use lib.ListN.{getD}
+use Prim.Native.Nat.{_*_, _<_}
+use mathlib.Core.Path.{_≡_, sym, ap, _∙_}
 use native.Mathlib.Omega.{arith}
 use Rattle.rules.specs.Rule.{rule}
-use Rattle.rules.specs.Levels.{levelOf, agreeAt}
+use Rattle.rules.specs.Levels.{levelOf, agreeAt, firstOf}
 use Rattle.rules.proofs.Laws.Places.{some-items, row-lt, column-lt, square-le}
 use Rattle.rules.proofs.Laws.Accepted.{first-of-lt}
 use Rattle.levels.specs.Marks.{markedGraph}
 use Rattle.levels.proofs.Laws.Tables.{base-next, place-get}
 use Rattle.levels.proofs.Laws.Reach.{byte-set, byte-clear}
 use Rattle.levels.proofs.Laws.Agreement.{at-is}
-use Rattle.levels.proofs.Laws.Right.{right-out, right-zero, right-high, right-agree}
+use Rattle.levels.proofs.Laws.Right.{right-out, right-zero, right-agree}
+use Rattle.levels.proofs.Laws.Firsts.{right-new, first-read}
 use borrow.Author.Needs.{needs}
 use Rattle.levels.proofs.check.is_right.Statement.{statement}
 use Rattle.levels.proofs.check.is_right.Tie as tie
@@ -52,18 +54,44 @@ returns-2 c =
     let a = e .before .before .before .before .before in
     right-zero _ _ _ _ _ (sym (place-get _ _ _ _ (a .pre .0 .some) (a .pre .2 .inside))) (byte-set _ (a .pre .1 .byte-at (a .args .p) (a .pre .2 .inside)) (e .if1 .left)) (c .if2 .taken)
 
-add-if3 : tie.Need-add-if3
-add-if3 c = let a = c .before .before .before .before .before .before in omega (arith, square-le (a .pre .0 .few), a .pre .2 .small, a .pre .2 .inside)
+add-result : tie.Need-add-result
+add-result c = let a = c .before .before .before .before .before .before .before in omega (arith, square-le (a .pre .0 .few), a .pre .2 .small, a .pre .2 .inside)
 
 returns-3 : tie.Need-returns-3
 returns-3 c =
     let e = c .before .before in
     let a = e .before .before .before .before .before in
-    right-high _ _ _ _ _ (sym (place-get _ _ _ _ (a .pre .0 .some) (a .pre .2 .inside))) (byte-set _ (a .pre .1 .byte-at (a .args .p) (a .pre .2 .inside)) (e .if1 .left))
-    (c .before .if2 .left) (omega (arith, c .if3 .taken, a .pre .2 .largest))
+    right-new _ _ _ _ _ (sym (place-get _ _ _ _ (a .pre .0 .some) (a .pre .2 .inside))) (a .pre .2 .inside)
+    (byte-set _ (a .pre .1 .byte-at (a .args .p) (a .pre .2 .inside)) (e .if1 .left)) (c .before .if2 .left) (a .pre .2 .largest) (c .if3 .taken)
 
-first-of-requires : tie.Need-first-of-requires
-first-of-requires c κs = search needs
+mul-word-at : tie.Need-mul-word-at
+mul-word-at c = search needs
+
+mul-word-at-2 : tie.Need-mul-word-at-2
+mul-word-at-2 c = search needs
+
+cast-word-at : tie.Need-cast-word-at
+cast-word-at c = search needs
+
+sub-word-at : tie.Need-sub-word-at
+sub-word-at c = search needs
+
+mul-word-at-3 : tie.Need-mul-word-at-3
+mul-word-at-3 c = search needs
+
+add-word-at : tie.Need-add-word-at
+add-word-at c = search needs
+
+word-at-requires : tie.Need-word-at-requires
+word-at-requires c κs = search needs
+
+-- what was read is the first position of the number of p
+is-first : (c : tie.After-word-at) → c .word-at .result ≡ firstOf (c .before .before .before .before .before .before .before .before .args .n * c .before .before .before .before .before .before .before .before .args .n) (levelOf (c .before .before .before .before .before .before .before .before .args .n) (c .before .before .before .before .before .before .before .before .args .levels .now) (c .before .before .before .before .before .before .before .before .args .i)) (getD (levelOf (c .before .before .before .before .before .before .before .before .args .n) (c .before .before .before .before .before .before .before .before .args .levels .now) (c .before .before .before .before .before .before .before .before .args .i)) (c .before .before .before .before .before .before .before .before .args .p) 0)
+is-first c =
+    let e2 = c .before .before in
+    let a = c .before .before .before .before .before .before .before .before in
+    first-read _ _ _ _ _ (a .pre .3) _ (e2 .if2 .left) (c .before .if3 .left) (c .word-at .ensures .0)
+    ∙ ap (firstOf (a .args .n * a .args .n) (levelOf (a .args .n) (a .args .levels .now) (a .args .i))) (sym (place-get _ _ _ _ (a .pre .0 .some) (a .pre .2 .inside)))
 
 div-agree : tie.Need-div-agree
 div-agree c = some-items _ _ (c .before .before .before .before .before .before .before .before .pre .2 .inside)
@@ -80,11 +108,16 @@ rem-agree-2 c = some-items _ _ (c .before .before .before .before .before .befor
 agree-requires : tie.Need-agree-requires
 agree-requires c κs =
     let a = c .before .before .before .before .before .before .before .before in
-    let h = rw (← c .first-of .ensures) at (first-of-lt (a .args .n * a .args .n) (levelOf (a .args .n) (a .args .levels .now) (a .args .i)) (a .args .p) (a .pre .2 .inside)) in (
+    let h : c .word-at .result < a .args .n * a .args .n =
+    rw (is-first c) (first-of-lt (a .args .n * a .args .n) (levelOf (a .args .n) (a .args .levels .now) (a .args .i)) (a .args .p) (a .pre .2 .inside)) in
+    let q1 = row-lt _ _ h in
+    let q2 = column-lt _ _ h in
+    let p1 = row-lt _ _ (a .pre .2 .inside) in
+    let p2 = column-lt _ _ (a .pre .2 .inside) in (
       record { some = a .pre .0 .some; room = a .pre .0 .room },
       record { room = omega arith },
-      record { first = row-lt _ _ (a .pre .2 .inside); second = column-lt _ _ (a .pre .2 .inside) },
-      record { first = row-lt _ _ h; second = column-lt _ _ h },
+      record { first = omega arith; second = omega arith },
+      record { first = omega arith; second = omega arith },
     )
 
 returns-4 : tie.Need-returns-4
@@ -97,7 +130,7 @@ returns-4 c =
     let T = levelOf (a .args .n) (a .args .levels .now) in
     right-agree _ _ _ _ _ (sym (place-get _ _ _ _ (a .pre .0 .some) (a .pre .2 .inside))) (byte-set _ (a .pre .1 .byte-at (a .args .p) (a .pre .2 .inside)) (e .if1 .left))
     (e2 .if2 .left) (omega (arith, f .before .if3 .left, a .pre .2 .largest))
-    (c .agree .ensures ∙ at-is _ _ _ _ _ _ ∙ ap (agreeAt rule g (a .args .i) T (a .args .p)) (f .first-of .ensures))
+    (c .agree .ensures ∙ at-is _ _ _ _ _ _ ∙ ap (agreeAt rule g (a .args .i) T (a .args .p)) (is-first f))
 
 pub is-right-spec : {M : Type 1} → statement M
 is-right-spec =
@@ -114,9 +147,15 @@ is-right-spec =
     shared-slice-read-if1
     returns
     returns-2
-    add-if3
+    add-result
     returns-3
-    first-of-requires
+    mul-word-at
+    mul-word-at-2
+    cast-word-at
+    sub-word-at
+    mul-word-at-3
+    add-word-at
+    word-at-requires
     div-agree
     rem-agree
     div-agree-2
