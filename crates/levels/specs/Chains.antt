@@ -54,23 +54,26 @@ pub record Answer (isIn : ℕ → Bool) (alike : ℕ → ℕ → Bool) (p q : �
 unfoldable pub keyOf : ℕ → List ℕ → ℕ → ℕ
 keyOf n area p = getD (take (n * n) area) p 0 + 256 * getD (take (n * n) area) (p % n * n + p / n) 0
 
--- any function of two numbers would serve
-unfoldable pub hashOf : ℕ → ℕ → ℕ
-hashOf a b = (a * 2654435761 % 4294967296 + b * 2246822519 % 4294967296) % 4294967296
+-- a hash of two numbers, turned by k: any function would serve
+unfoldable pub hashOf : ℕ → ℕ → ℕ → ℕ
+hashOf k a b = (a * 2654435761 % 4294967296 + b * 2246822519 % 4294967296 + k) % 4294967296
 
 -- of a midpoint the hash of its two numbers, else 0
-unfoldable pub midHash : ℕ → List ℕ → List ℕ → ℕ → ℕ → ℕ → ℕ
-midHash n s t v u m = cond (eqb (numberAt n s v m) 0 || eqb (numberAt n t m u) 0) 0 (hashOf (numberAt n s v m) (numberAt n t m u))
+unfoldable pub midHash : ℕ → ℕ → List ℕ → List ℕ → ℕ → ℕ → ℕ → ℕ
+midHash k n s t v u m = cond (eqb (numberAt n s v m) 0 || eqb (numberAt n t m u) 0) 0 (hashOf k (numberAt n s v m) (numberAt n t m u))
 
 -- the largest of f 0, f 1, .. below the bound
 unfoldable pub mostBelow : ℕ → (ℕ → ℕ) → ℕ
 mostBelow zero f = 0
 mostBelow (suc n) f = max (mostBelow n f) (f n)
 
--- over the midpoints of the pair at p, in the first split of level i
+-- the largest hash of the midpoints of the pair at p, in the first split of level i
+unfoldable pub splitMost : ℕ → ℕ → ℕ → List ℕ → ℕ → ℕ
+splitMost k n i levels p = mostBelow n (midHash k n (levelOf n levels (rule .first i 0)) (levelOf n levels (rule .second i 0)) (p / n) (p % n))
+
+-- by two turns of the hash; 0 where level i has no split
 unfoldable pub mostOf : ℕ → ℕ → List ℕ → ℕ → ℕ
-mostOf n i levels p =
-    cond (eqb (rule .many i) 0) 0 (mostBelow n (midHash n (levelOf n levels (rule .first i 0)) (levelOf n levels (rule .second i 0)) (p / n) (p % n)))
+mostOf n i levels p = cond (eqb (rule .many i) 0) 0 (splitMost 0 n i levels p + splitMost 2147483648 n i levels p)
 
 unfoldable pub bucketOf : ℕ → ℕ → List ℕ → List ℕ → ℕ → ℕ
 bucketOf n i levels area p = (keyOf n area p + mostOf n i levels p) % (n * n)

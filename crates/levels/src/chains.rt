@@ -2,9 +2,10 @@
 ghost use mathlib.Core.Path.{_≡_};
 ghost use Prim.Native.Nat.{ℕ, _+_, _*_, _<_, _≤_, max};
 ghost use lib.ListN.{length};
+ghost use Rattle.rules.specs.Rule.{rule};
 ghost use Rattle.rules.specs.Levels.{levelOf};
 ghost use Rattle.rules.specs.Writing.{fill};
-ghost use Rattle.levels.specs.Chains.{word, setWord, hashOf, midHash, mostBelow, mostOf, bucketOf, Chains, Answer};
+ghost use Rattle.levels.specs.Chains.{word, setWord, hashOf, midHash, mostBelow, splitMost, mostOf, bucketOf, Chains, Answer};
 ghost use Rattle.levels.specs.Needs.{Pair, Stands, Ready, isIn, alike};
 use super::agree::agree;
 use super::agree::first_level;
@@ -30,15 +31,17 @@ pub fn set_word(area: &mut [u8], at: usize, x: usize)
     area[at + 1] = (x / 256) as u8;
 }
 
-// A hash of two numbers.
-fn hash(a: u32, b: u32) -> u64
-    ensures { λ r. ⌜ (r ≡ hashOf a b) × (r < 4294967296) ⌝ }
+// A hash of two numbers, turned by k.
+fn hash(k: u64, a: u32, b: u32) -> u64
+    requires { ⌜ k < 4294967296 ⌝ }
+    ensures { λ r. ⌜ (r ≡ hashOf k a b) × (r < 4294967296) ⌝ }
 {
-    ((a as u64) * 2654435761 % 4294967296 + (b as u64) * 2246822519 % 4294967296) % 4294967296
+    ((a as u64) * 2654435761 % 4294967296 + (b as u64) * 2246822519 % 4294967296 + k) % 4294967296
 }
 
 // The larger of a number and the hash of a midpoint; one that is not connected on both sides does not count.
 fn larger(
+    k: u64,
     n: usize,
     levels: &[u32],
     first: usize,
@@ -48,8 +51,8 @@ fn larger(
     m: usize,
     most: u64,
 ) -> u64
-    requires { ⌜ (Stands n (now levels) first) × (Stands n (now levels) second) × (Pair n v u) × (m < n) × (most < 4294967296) ⌝ }
-    ensures { λ r. ⌜ (r ≡ max most (midHash n (levelOf n (now (levels .entry)) first) (levelOf n (now (levels .entry)) second) v u m)) × (r < 4294967296) ⌝ }
+    requires { ⌜ (k < 4294967296) × (Stands n (now levels) first) × (Stands n (now levels) second) × (Pair n v u) × (m < n) × (most < 4294967296) ⌝ }
+    ensures { λ r. ⌜ (r ≡ max most (midHash k n (levelOf n (now (levels .entry)) first) (levelOf n (now (levels .entry)) second) v u m)) × (r < 4294967296) ⌝ }
 {
     let a = number_at(n, levels, first, v, m);
     if a == 0 {
@@ -59,7 +62,7 @@ fn larger(
     if b == 0 {
         return most;
     }
-    let h = hash(a, b);
+    let h = hash(k, a, b);
     if most < h {
         return h;
     }
@@ -67,30 +70,46 @@ fn larger(
 }
 
 // The largest hash of the midpoints of (v,u).
-fn most_hash(n: usize, levels: &[u32], first: usize, second: usize, v: usize, u: usize) -> u64
-    requires { ⌜ (Stands n (now levels) first) × (Stands n (now levels) second) × (Pair n v u) ⌝ }
-    ensures { λ r. ⌜ (r ≡ mostBelow n (midHash n (levelOf n (now (levels .entry)) first) (levelOf n (now (levels .entry)) second) v u)) × (r < 4294967296) ⌝ }
+fn most_hash(
+    k: u64,
+    n: usize,
+    levels: &[u32],
+    first: usize,
+    second: usize,
+    v: usize,
+    u: usize,
+) -> u64
+    requires { ⌜ (k < 4294967296) × (Stands n (now levels) first) × (Stands n (now levels) second) × (Pair n v u) ⌝ }
+    ensures { λ r. ⌜ (r ≡ mostBelow n (midHash k n (levelOf n (now (levels .entry)) first) (levelOf n (now (levels .entry)) second) v u)) × (r < 4294967296) ⌝ }
 {
     let mut most: u64 = 0;
     let mut m = 0;
     while m < n {
-        most = larger(n, levels, first, second, v, u, m, most);
+        most = larger(k, n, levels, first, second, v, u, m, most);
         m += 1;
     }
     most
 }
 
-// The largest hash in the first split of level i, where it has one.
+// The largest hash of the midpoints in the first split of level i.
+fn split_most(k: u64, n: usize, i: usize, levels: &[u32], p: usize) -> u64
+    requires { ⌜ (k < 4294967296) × (Stands n (now levels) i) × (p < n * n) × (0 < rule .many i) ⌝ }
+    ensures { λ r. ⌜ (r ≡ splitMost k n i (now (levels .entry)) p) × (r < 4294967296) ⌝ }
+{
+    let a = first_level(i, 0);
+    let b = second_level(i, 0);
+    most_hash(k, n, levels, a, b, p / n, p % n)
+}
+
+// By two turns of the hash; 0 where level i has no split.
 fn most_at(n: usize, i: usize, levels: &[u32], p: usize) -> u64
     requires { ⌜ (Stands n (now levels) i) × (p < n * n) ⌝ }
-    ensures { λ r. ⌜ (r ≡ mostOf n i (now (levels .entry)) p) × (r < 4294967296) ⌝ }
+    ensures { λ r. ⌜ (r ≡ mostOf n i (now (levels .entry)) p) × (r < 8589934592) ⌝ }
 {
     if splits(i) == 0 {
         return 0;
     }
-    let a = first_level(i, 0);
-    let b = second_level(i, 0);
-    most_hash(n, levels, a, b, p / n, p % n)
+    split_most(0, n, i, levels, p) + split_most(2147483648, n, i, levels, p)
 }
 
 // The bucket of a position.

@@ -19,7 +19,7 @@ use Rattle.rules.proofs.Laws.Places.{place-lt, row-lt, column-lt}
 use Rattle.rules.proofs.Laws.Agree.{Twins, Agree, agree-find}
 use Rattle.rules.proofs.Laws.Ends.{steps-here}
 use Rattle.levels.specs.Marks.{markedGraph}
-use Rattle.levels.specs.Chains.{keyOf, hashOf, midHash, mostBelow, mostOf, bucketOf}
+use Rattle.levels.specs.Chains.{keyOf, hashOf, midHash, mostBelow, splitMost, mostOf, bucketOf}
 use Rattle.levels.proofs.Laws.Marks.{steps-there, steps-back}
 
 -- the largest below a bound
@@ -42,49 +42,55 @@ most-bound zero f k h = omega arith
 most-bound (suc n) f k h = omega (arith, most-bound n f k (λ m l. h m (omega arith)), h n (omega arith))
 
 -- of one midpoint
-module _ (n : ℕ) (s t : List ℕ) (v u m : ℕ) where
-  pub mid-first : {a : ℕ} → a ≡ numberAt n s v m → a ≡ 0 → midHash n s t v u m ≡ 0
+module _ (k n : ℕ) (s t : List ℕ) (v u m : ℕ) where
+  pub mid-first : {a : ℕ} → a ≡ numberAt n s v m → a ≡ 0 → midHash k n s t v u m ≡ 0
   unfolding midHash
   mid-first e z = rw (eq-eqb (numberAt n s v m) 0 (sym e ∙ z)) refl
 
-  pub mid-second : {a b : ℕ} → a ≡ numberAt n s v m → (a ≡ 0 → ⊥) → b ≡ numberAt n t m u → b ≡ 0 → midHash n s t v u m ≡ 0
+  pub mid-second : {a b : ℕ} → a ≡ numberAt n s v m → (a ≡ 0 → ⊥) → b ≡ numberAt n t m u → b ≡ 0 → midHash k n s t v u m ≡ 0
   unfolding midHash
-  mid-second e k f z = rw (ne-eqb (numberAt n s v m) 0 (λ q. k (e ∙ q)), eq-eqb (numberAt n t m u) 0 (sym f ∙ z)) refl
+  mid-second e d f z = rw (ne-eqb (numberAt n s v m) 0 (λ q. d (e ∙ q)), eq-eqb (numberAt n t m u) 0 (sym f ∙ z)) refl
 
-  pub mid-both : {a b : ℕ} → a ≡ numberAt n s v m → (a ≡ 0 → ⊥) → b ≡ numberAt n t m u → (b ≡ 0 → ⊥) → midHash n s t v u m ≡ hashOf a b
+  pub mid-both : {a b : ℕ} → a ≡ numberAt n s v m → (a ≡ 0 → ⊥) → b ≡ numberAt n t m u → (b ≡ 0 → ⊥) → midHash k n s t v u m ≡ hashOf k a b
   unfolding midHash
-  mid-both e k f l = rw (ne-eqb (numberAt n s v m) 0 (λ q. k (e ∙ q)), ne-eqb (numberAt n t m u) 0 (λ q. l (f ∙ q)), e, f) refl
+  mid-both e d f l = rw (ne-eqb (numberAt n s v m) 0 (λ q. d (e ∙ q)), ne-eqb (numberAt n t m u) 0 (λ q. l (f ∙ q)), e, f) refl
 
 -- twins one way: no midpoint has a larger hash
-most-twins : (n : ℕ) (s t : List ℕ) (v u x y : ℕ) → Twins n s t v u x y → mostBelow n (midHash n s t v u) ≤ mostBelow n (midHash n s t x y)
-most-twins n s t v u x y tw = most-bound n (midHash n s t v u) (mostBelow n (midHash n s t x y)) (λ m h. at m h (eq-zero-or-pos (numberAt n s v m)) (eq-zero-or-pos (numberAt n t m u)))
+most-twins : (k n : ℕ) (s t : List ℕ) (v u x y : ℕ) → Twins n s t v u x y → mostBelow n (midHash k n s t v u) ≤ mostBelow n (midHash k n s t x y)
+most-twins k n s t v u x y tw = most-bound n (midHash k n s t v u) (mostBelow n (midHash k n s t x y)) (λ m h. at m h (eq-zero-or-pos (numberAt n s v m)) (eq-zero-or-pos (numberAt n t m u)))
   where
     at : (m : ℕ) → m < n → (numberAt n s v m ≡ 0) ⊎ (0 < numberAt n s v m) → (numberAt n t m u ≡ 0) ⊎ (0 < numberAt n t m u)
-        → midHash n s t v u m ≤ mostBelow n (midHash n s t x y)
-    at m h (inl z) b = omega (arith, mid-first n s t v u m refl z)
-    at m h (inr a) (inl z) = omega (arith, mid-second n s t v u m refl (λ q. omega arith) refl z)
+        → midHash k n s t v u m ≤ mostBelow n (midHash k n s t x y)
+    at m h (inl z) b = omega (arith, mid-first k n s t v u m refl z)
+    at m h (inr a) (inl z) = omega (arith, mid-second k n s t v u m refl (λ q. omega arith) refl z)
     at m h (inr a) (inr b) =
         let r = tw .twin m h a b in
-        let e = mid-both n s t v u m refl (λ q. omega arith) refl (λ q. omega arith) in
-        let f = mid-both n s t x y (r .0) (r .2) (λ q. omega arith) (r .3) (λ q. omega arith) in
-        omega (arith, e, f, most-at n (midHash n s t x y) (r .0) (r .1))
+        let e = mid-both k n s t v u m refl (λ q. omega arith) refl (λ q. omega arith) in
+        let f = mid-both k n s t x y (r .0) (r .2) (λ q. omega arith) (r .3) (λ q. omega arith) in
+        omega (arith, e, f, most-at n (midHash k n s t x y) (r .0) (r .1))
 
 module _ (n i : ℕ) (levels area : List ℕ) (bytes : (q : ℕ) → getD area q 0 < 256) where
+  split-same : (k p q : ℕ) → 0 < rule .many i → Agree rule (markedGraph n area) i (levelOf n levels) (p / n) (p % n) (q / n) (q % n)
+      → splitMost k n i levels p ≡ splitMost k n i levels q
+  unfolding splitMost
+  split-same k p q h a =
+      let s = levelOf n levels (rule .first i 0) in
+      let t = levelOf n levels (rule .second i 0) in
+      le-antisymm (most-twins k n s t (p / n) (p % n) (q / n) (q % n) (a .there 0 h)) (most-twins k n s t (q / n) (q % n) (p / n) (p % n) (a .back 0 h))
+
   most-same : (p q : ℕ) → Agree rule (markedGraph n area) i (levelOf n levels) (p / n) (p % n) (q / n) (q % n) → mostOf n i levels p ≡ mostOf n i levels q
   unfolding mostOf
   most-same p q a = go (either (eqb (rule .many i) 0))
     where
-      most : ℕ → ℕ
-      most p = mostBelow n (midHash n (levelOf n levels (rule .first i 0)) (levelOf n levels (rule .second i 0)) (p / n) (p % n))
+      two : ℕ → ℕ
+      two p = splitMost 0 n i levels p + splitMost 2147483648 n i levels p
 
-      go : (eqb (rule .many i) 0 ≡ true) ⊎ (eqb (rule .many i) 0 ≡ false) → cond (eqb (rule .many i) 0) 0 (most p) ≡ cond (eqb (rule .many i) 0) 0 (most q)
+      go : (eqb (rule .many i) 0 ≡ true) ⊎ (eqb (rule .many i) 0 ≡ false) → cond (eqb (rule .many i) 0) 0 (two p) ≡ cond (eqb (rule .many i) 0) 0 (two q)
       go (inl e) = rw e refl
       go (inr e) =
-          let k = eqb-false (rule .many i) 0 e in
-          let h : 0 < rule .many i = ⊎-elim (λ z. absurd (k z)) (λ l. l) (eq-zero-or-pos (rule .many i)) in
-          let s = levelOf n levels (rule .first i 0) in
-          let t = levelOf n levels (rule .second i 0) in
-          rw e (le-antisymm (most-twins n s t (p / n) (p % n) (q / n) (q % n) (a .there 0 h)) (most-twins n s t (q / n) (q % n) (p / n) (p % n) (a .back 0 h)))
+          let d = eqb-false (rule .many i) 0 e in
+          let h : 0 < rule .many i = ⊎-elim (λ z. absurd (d z)) (λ l. l) (eq-zero-or-pos (rule .many i)) in
+          rw e (ap₂ _+_ (split-same 0 p q h a) (split-same 2147483648 p q h a))
 
   pub key-read : (p : ℕ) → p < n * n → getD area (p / n * n + p % n) 0 + 256 * getD area (p % n * n + p / n) 0 ≡ keyOf n area p
   unfolding keyOf
@@ -121,30 +127,35 @@ pub most-next : (n : ℕ) (f : ℕ → ℕ) {a b : ℕ} → a ≡ mostBelow n f 
 most-next n f {a} {b} e k = k ∙ ap (λ (z : ℕ). max z (f n)) e ∙ most-more n f
 
 -- what the larger of a number and a midpoint's hash is
-module _ (n : ℕ) (s t : List ℕ) (v u m : ℕ) {a : ℕ} (ea : a ≡ numberAt n s v m) where
-  pub larger-none : {top : ℕ} → a ≡ 0 → top < 4294967296 → (top ≡ max top (midHash n s t v u m)) × (top < 4294967296)
-  larger-none z h = (omega (arith, mid-first n s t v u m ea z), h)
+module _ (k n : ℕ) (s t : List ℕ) (v u m : ℕ) {a : ℕ} (ea : a ≡ numberAt n s v m) where
+  pub larger-none : {top : ℕ} → a ≡ 0 → top < 4294967296 → (top ≡ max top (midHash k n s t v u m)) × (top < 4294967296)
+  larger-none z h = (omega (arith, mid-first k n s t v u m ea z), h)
 
   module _ (ka : a ≡ 0 → ⊥) {b : ℕ} (eb : b ≡ numberAt n t m u) where
-    pub larger-second : {top : ℕ} → b ≡ 0 → top < 4294967296 → (top ≡ max top (midHash n s t v u m)) × (top < 4294967296)
-    larger-second z h = (omega (arith, mid-second n s t v u m ea ka eb z), h)
+    pub larger-second : {top : ℕ} → b ≡ 0 → top < 4294967296 → (top ≡ max top (midHash k n s t v u m)) × (top < 4294967296)
+    larger-second z h = (omega (arith, mid-second k n s t v u m ea ka eb z), h)
 
-    module _ (kb : b ≡ 0 → ⊥) {k top : ℕ} (ek : (k ≡ hashOf a b) × (k < 4294967296)) where
-      pub larger-new : top < k → (k ≡ max top (midHash n s t v u m)) × (k < 4294967296)
-      larger-new h = (omega (arith, mid-both n s t v u m ea ka eb kb, ek .0), ek .1)
+    module _ (kb : b ≡ 0 → ⊥) {d top : ℕ} (ed : (d ≡ hashOf k a b) × (d < 4294967296)) where
+      pub larger-new : top < d → (d ≡ max top (midHash k n s t v u m)) × (d < 4294967296)
+      larger-new h = (omega (arith, mid-both k n s t v u m ea ka eb kb, ed .0), ed .1)
 
-      pub larger-old : k ≤ top → top < 4294967296 → (top ≡ max top (midHash n s t v u m)) × (top < 4294967296)
-      larger-old h l = (omega (arith, mid-both n s t v u m ea ka eb kb, ek .0), l)
+      pub larger-old : d ≤ top → top < 4294967296 → (top ≡ max top (midHash k n s t v u m)) × (top < 4294967296)
+      larger-old h l = (omega (arith, mid-both k n s t v u m ea ka eb kb, ed .0), l)
 
 -- the first split, where level i has one
+pub split-is : (k n i : ℕ) (levels : List ℕ) (p : ℕ) {a b r : ℕ} → a ≡ rule .first i 0 → b ≡ rule .second i 0
+    → r ≡ mostBelow n (midHash k n (levelOf n levels a) (levelOf n levels b) (p / n) (p % n)) → r ≡ splitMost k n i levels p
+unfolding splitMost
+split-is k n i levels p ea eb h = rw (← ea, ← eb) h
+
 pub most-none : (n i : ℕ) (levels : List ℕ) (p : ℕ) {count : ℕ} → count ≡ rule .many i → count ≡ 0 → 0 ≡ mostOf n i levels p
 unfolding mostOf
 most-none n i levels p e z = rw (eq-eqb (rule .many i) 0 (sym e ∙ z)) refl
 
-pub most-some : (n i : ℕ) (levels : List ℕ) (p : ℕ) {count a b r : ℕ} → count ≡ rule .many i → (count ≡ 0 → ⊥) → a ≡ rule .first i 0 → b ≡ rule .second i 0
-    → r ≡ mostBelow n (midHash n (levelOf n levels a) (levelOf n levels b) (p / n) (p % n)) → r ≡ mostOf n i levels p
+pub most-some : (n i : ℕ) (levels : List ℕ) (p : ℕ) {count x y : ℕ} → count ≡ rule .many i → (count ≡ 0 → ⊥)
+    → x ≡ splitMost 0 n i levels p → y ≡ splitMost 2147483648 n i levels p → x + y ≡ mostOf n i levels p
 unfolding mostOf
-most-some n i levels p e k ea eb h = rw (ne-eqb (rule .many i) 0 (λ z. k (e ∙ z)), ← ea, ← eb) h
+most-some n i levels p e d ex ey = rw (ne-eqb (rule .many i) 0 (λ z. d (e ∙ z))) (ap₂ _+_ ex ey)
 
 -- what the bucket of a position is
 pub bucket-is : (n i : ℕ) (levels area : List ℕ) (p : ℕ) → p < n * n → ((q : ℕ) → getD area q 0 < 256) → {x y h : ℕ}

@@ -17,7 +17,7 @@ use Rattle.rules.proofs.Laws.Tests.{either}
 use Rattle.rules.proofs.Laws.Writing.{getD-fill-in, length-fill}
 use Rattle.rules.specs.Accept.{levelOk}
 use Rattle.levels.specs.Marks.{markedGraph}
-use Rattle.levels.specs.Chains.{word, headOf, keyOf, midHash, mostBelow, mostOf, bucketOf, Chains}
+use Rattle.levels.specs.Chains.{Chains, word, headOf, keyOf, splitMost, mostOf, bucketOf}
 use Rattle.levels.specs.Needs.{Ready, Near, Begun, Kept, Steady, Positioned, Numbered, Passed, Faulty, base, isIn, alike, nearByte}
 use Rattle.levels.proofs.Laws.Areas.{edges-kept, byte-kept, ready-area, placed-kept, take-fill, drop-fill-at, near-kept}
 use Rattle.levels.proofs.Laws.Level.{numbers, still-ready, same-below, same-alike}
@@ -44,21 +44,24 @@ near-steady n i w w' near s =
 -- a bucket is made of the marks and the levels below
 bucket-kept : (n i : ℕ) (l l' w w' : List ℕ) → take (n * n) w' ≡ take (n * n) w → ((j : ℕ) → j < i → levelOf n l' j ≡ levelOf n l j)
     → bucketOf n i l' w' ≡ bucketOf n i l w
-unfolding bucketOf keyOf mostOf
+unfolding bucketOf keyOf mostOf splitMost
 bucket-kept n i l l' w w' e below = fun-ext (λ p. ap (λ (z : ℕ). z % (n * n)) (ap₂ _+_ (key p) (most p (either (eqb (rule .many i) 0)))))
   where
     key : (p : ℕ) → getD (take (n * n) w') p 0 + 256 * getD (take (n * n) w') (p % n * n + p / n) 0 ≡ getD (take (n * n) w) p 0 + 256 * getD (take (n * n) w) (p % n * n + p / n) 0
     key p = ap (λ (z : List ℕ). getD z p 0 + 256 * getD z (p % n * n + p / n) 0) e
 
-    over : List ℕ → ℕ → ℕ
-    over z p = mostBelow n (midHash n (levelOf n z (rule .first i 0)) (levelOf n z (rule .second i 0)) (p / n) (p % n))
+    over : (k p : ℕ) → 0 < rule .many i → splitMost k n i l' p ≡ splitMost k n i l p
+    over k p h = rw (below (rule .first i 0) (rule .first-below i 0 h), below (rule .second i 0) (rule .second-below i 0 h)) refl
 
-    most : (p : ℕ) → (eqb (rule .many i) 0 ≡ true) ⊎ (eqb (rule .many i) 0 ≡ false) → cond (eqb (rule .many i) 0) 0 (over l' p) ≡ cond (eqb (rule .many i) 0) 0 (over l p)
+    two : List ℕ → ℕ → ℕ
+    two z p = splitMost 0 n i z p + splitMost 2147483648 n i z p
+
+    most : (p : ℕ) → (eqb (rule .many i) 0 ≡ true) ⊎ (eqb (rule .many i) 0 ≡ false) → cond (eqb (rule .many i) 0) 0 (two l' p) ≡ cond (eqb (rule .many i) 0) 0 (two l p)
     most p (inl t) = rw t refl
     most p (inr t) =
         let k = eqb-false (rule .many i) 0 t in
         let h : 0 < rule .many i = ⊎-elim (λ z. absurd (k z)) (λ b. b) (eq-zero-or-pos (rule .many i)) in
-        rw (t, below (rule .first i 0) (rule .first-below i 0 h), below (rule .second i 0) (rule .second-below i 0 h)) refl
+        rw t (ap₂ _+_ (over 0 p h) (over 2147483648 p h))
 
 module _ (n i : ℕ) (l w : List ℕ) (ready : Ready n i l w) (p : ℕ) (l' : List ℕ) (e : l' ≡ put l (base n i) (numbers n i l w ready p)) (h : p ≤ n * n)
     (w' : List ℕ) (s : Steady n w w') where

@@ -14,9 +14,12 @@ mul-result-2 c = search needs
 add-result : tie.Need-add-result
 add-result c = search needs
 
+add-result-2 : tie.Need-add-result-2
+add-result-2 c = search needs
+
 returns : tie.Need-returns
 unfolding hashOf
 returns c = (refl, omega arith)
 
 pub hash-spec : {M : Type 1} → statement M
-hash-spec = tie.close (tie.spec mul-result mul-result-2 add-result returns)
+hash-spec = tie.close (tie.spec mul-result mul-result-2 add-result add-result-2 returns)

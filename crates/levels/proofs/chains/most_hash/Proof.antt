@@ -9,10 +9,10 @@ use Rattle.levels.proofs.chains.most_hash.Statement.{statement}
 use Rattle.levels.proofs.chains.most_hash.Tie as tie
 
 abbrev Inv-loop : tie.InvT-loop
-Inv-loop n levels first second v u most₀ m₀ most m = (m ≤ n) × (most ≡ mostBelow m (midHash n (levelOf n levels first) (levelOf n levels second) v u)) × (most < 4294967296)
+Inv-loop k n levels first second v u most₀ m₀ most m = (m ≤ n) × (most ≡ mostBelow m (midHash k n (levelOf n levels first) (levelOf n levels second) v u)) × (most < 4294967296)
 
 abbrev μ-loop : tie.MeasureT-loop
-μ-loop n levels first second v u most₀ m₀ most m = n - m
+μ-loop k n levels first second v u most₀ m₀ most m = n - m
 
 loop-holds : tie.Need-loop-holds Inv-loop μ-loop
 loop-holds c = (omega arith, most-start _, omega arith)
