@@ -15,9 +15,6 @@ use Rattle.rules.proofs.Laws.Loops.{all-not-at}
 use Rattle.levels.specs.Needs.{Stands}
 
 module _ (ρ : Rule) (g : Graph) (i : ℕ) (T : ℕ → List ℕ) (v u x y : ℕ) where
-  abbrev tests : Bool
-  tests = sameEnds g v u x y && sameSteps g v u x y && allBelow (ρ .many i) (splitOk ρ g i T v u x y)
-
   not-agree : (agree ρ g i T v u x y ≡ true → ⊥) → false ≡ agree ρ g i T v u x y
   not-agree h = sym (not-true-of (agree ρ g i T v u x y) h)
 

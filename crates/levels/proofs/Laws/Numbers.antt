@@ -8,10 +8,9 @@ use native.Mathlib.Omega.{arith}
 use lib.Dec.{ltb}
 use lib.ListN.{getD}
 use lib.Seq.{getD-at}
-use borrow.Author.Tests.{lt-ltb, le-ltb}
+use borrow.Author.Tests.{le-ltb}
 use Rattle.rules.specs.Finite.{anyBelow, firstBelow}
 use Rattle.rules.specs.Levels.{matches, nextNumber, numbering, maxOf}
-use Rattle.rules.proofs.Laws.Tests.{and-right, not-true-of, not-both}
 use Rattle.rules.proofs.Laws.Finite.{any-same, first-none}
 use Rattle.rules.proofs.Laws.Numbering.{max-bounds, number, numbering-at, numbering-length, related-same}
 
@@ -30,26 +29,10 @@ module _ (c : ℕ → Bool) (r : ℕ → ℕ → Bool) where
   unfolding numbering
   numbering-more p = rw add-one refl
 
-  pub matches-yes : (p q : ℕ) → c q ≡ true → r q p ≡ true → matches c r p q ≡ true
-  unfolding matches
-  matches-yes p q h k = rw (h, k) refl
-
-  pub matches-out : (p q : ℕ) → c q ≡ false → matches c r p q ≡ false
-  unfolding matches
-  matches-out p q h = rw h refl
-
-  pub matches-other : (p q : ℕ) → r q p ≡ false → matches c r p q ≡ false
-  unfolding matches
-  matches-other p q h = not-true-of (c q && r q p) (λ t. not-both (r q p) (and-right (c q) (r q p) t) h)
-
   module _ (ns : List ℕ) (p : ℕ) where
     pub next-out : c p ≡ false → 0 ≡ nextNumber c r ns p
     unfolding nextNumber
     next-out h = rw h refl
-
-    pub next-same : {q : ℕ} → c p ≡ true → q ≡ firstBelow p (matches c r p) → q < p → getD ns q 0 ≡ nextNumber c r ns p
-    unfolding nextNumber
-    next-same {q} h e l = rw (h, ← e, lt-ltb q p l) refl
 
     pub next-new : {q top : ℕ} → c p ≡ true → q ≡ firstBelow p (matches c r p) → p ≤ q → top ≡ maxOf ns → top + 1 ≡ nextNumber c r ns p
     unfolding nextNumber

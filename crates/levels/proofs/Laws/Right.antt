@@ -1,5 +1,5 @@
 -- What the check of one position has learnt when it is left.
-use Prim.Native.Nat.{ℕ, suc, _+_, _*_, _-_, _≤_, _<_, max}
+use Prim.Native.Nat.{ℕ, suc, _+_, _*_, _≤_, _<_, max}
 use mathlib.Core.Path.{_≡_, refl, sym, _∙_}
 use mathlib.Core.List.{List}
 use mathlib.Core.Bool.{Bool, true, false, not, _&&_, _||_, Bool·beq}
@@ -12,34 +12,16 @@ use borrow.Author.Tests.{eq-eqb, ne-eqb, le-leb, lt-leb, not-false}
 use Rattle.rules.specs.Finite.{anyBelow}
 use Rattle.rules.specs.Graph.{Graph}
 use Rattle.rules.specs.Rule.{Rule}
-use Rattle.rules.specs.Levels.{levelOf, firstOf, maxOf, connectedAt, agreeAt}
+use Rattle.rules.specs.Levels.{firstOf, maxOf, connectedAt, agreeAt}
 use Rattle.rules.specs.Accept.{numberOk, levelOk, firstFault}
 use Rattle.rules.proofs.Laws.Finite.{first-none}
 use Rattle.rules.proofs.Laws.Loops.{first-found}
 use Rattle.rules.proofs.Laws.Accepted.{right-find}
-use Rattle.levels.proofs.Laws.Tables.{place-get}
 use Rattle.levels.proofs.Laws.Numbers.{max-snoc}
 
 -- position q has number c
 unfoldable pub hasNumber : List ℕ → ℕ → ℕ → Bool
 hasNumber t c q = eqb (getD t q 0) c
-
-module _ (n : ℕ) (levels : List ℕ) (i p q : ℕ) (some : 0 < i) (hq : q < n * n) (hp : p < n * n) where
-  pub has-same : getD levels ((i - 1) * (n * n) + q) 0 ≡ getD levels ((i - 1) * (n * n) + p) 0
-      → hasNumber (levelOf n levels i) (getD (levelOf n levels i) p 0) q ≡ true
-  unfolding hasNumber
-  has-same e = eq-eqb (getD (levelOf n levels i) q 0) (getD (levelOf n levels i) p 0) (place-get n levels i q some hq ∙ e ∙ sym (place-get n levels i p some hp))
-
-  pub has-other : (getD levels ((i - 1) * (n * n) + q) 0 ≡ getD levels ((i - 1) * (n * n) + p) 0 → ⊥)
-      → hasNumber (levelOf n levels i) (getD (levelOf n levels i) p 0) q ≡ false
-  unfolding hasNumber
-  has-other k =
-      ne-eqb (getD (levelOf n levels i) q 0) (getD (levelOf n levels i) p 0)
-      (λ e. k (sym (place-get n levels i q some hq) ∙ e ∙ place-get n levels i p some hp))
-
-pub first-here : (n : ℕ) (t : List ℕ) (c p q : ℕ) → p < n * n → q < p → anyBelow q (hasNumber t c) ≡ false → hasNumber t c q ≡ true → q ≡ firstOf (n * n) t c
-unfolding hasNumber firstOf
-first-here n t c p q hp h none e = first-found (hasNumber t c) (n * n) q (omega arith) none e
 
 pub first-self : (n : ℕ) (t : List ℕ) (p : ℕ) → p < n * n → anyBelow p (hasNumber t (getD t p 0)) ≡ false → p ≡ firstOf (n * n) t (getD t p 0)
 unfolding hasNumber firstOf
