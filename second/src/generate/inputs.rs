@@ -1,0 +1,171 @@
+//! Whole inputs of the program `answer`: the input of a seed and an index.
+
+use super::graphs::{self, Plan};
+use super::queries;
+use super::random::Random;
+
+pub fn input(seed: u64, index: u64) -> Vec<u8> {
+    let random = &mut Random::new(seed ^ 0x616E_7377_6572, index);
+    let mut lines = match random.below(100) {
+        0 => edge_limit(random),
+        1..=2 => all_items(random),
+        3..=5 => entry_limit(random),
+        6 => Vec::new(),
+        _ => {
+            let plan = graphs::small(random);
+            frames(random, &plan)
+        }
+    };
+    for _ in 0..random.pick(&[0, 0, 0, 0, 1, 1, 2]) {
+        spoil(random, &mut lines);
+    }
+    let mut bytes = lines.join(&b'\n');
+    if !random.once_in(5) {
+        bytes.push(b'\n');
+    }
+    if random.once_in(25) && !bytes.is_empty() {
+        let place = random.below(bytes.len());
+        bytes[place] = random.pick(&[
+            b'a', b'f', b'G', b'\r', b' ', b'\n', b'0', 0, 255, b'/', b':', b'@',
+        ]);
+    }
+    bytes
+}
+
+/// 01, the 02s, some 03s.
+fn frames(random: &mut Random, plan: &Plan) -> Vec<Vec<u8>> {
+    let mut plan = plan.clone();
+    if random.once_in(8) {
+        let wrong = random.below(3);
+        plan.labels = if wrong == 0 {
+            random.pick(&[0, 9, 255])
+        } else {
+            plan.labels
+        };
+        plan.k = if wrong == 1 {
+            random.pick(&[0, 5, 255])
+        } else {
+            plan.k
+        };
+        plan.items = if wrong == 2 {
+            plan.items.saturating_sub(1)
+        } else {
+            plan.items
+        };
+    }
+    let mut lines = vec![sizes(plan.items, plan.labels, plan.k)];
+    lines.extend(plan.edges.chunks(3).map(edge));
+    for _ in 0..random.pick(&[0, 1, 1, 2, 3, 5]) {
+        let mut tokens = queries::good(random, plan.labels);
+        if random.once_in(4) {
+            queries::spoil(random, plan.labels, &mut tokens);
+        }
+        lines.push(tokens_line(&tokens));
+    }
+    lines
+}
+
+fn sizes(items: u32, labels: u32, k: u32) -> Vec<u8> {
+    format!("01{items:04X}{labels:02X}{k:02X}").into_bytes()
+}
+
+fn edge(edge: &[u32]) -> Vec<u8> {
+    format!("02{:04X}{:04X}{:02X}", edge[0], edge[1], edge[2]).into_bytes()
+}
+
+fn tokens_line(tokens: &[u8]) -> Vec<u8> {
+    let mut line = String::from("03");
+    for token in tokens {
+        line.push_str(&format!("{token:02X}"));
+    }
+    line.into_bytes()
+}
+
+/// 1,024 edges, or one more.
+fn edge_limit(random: &mut Random) -> Vec<Vec<u8>> {
+    let mut plan = graphs::many_edges(random);
+    plan.edges
+        .truncate(3 * random.pick(&[1023, 1024, 1024, 1025]));
+    frames(random, &plan)
+}
+
+/// 32 items, or one more.
+fn all_items(random: &mut Random) -> Vec<Vec<u8>> {
+    let items = random.pick(&[31, 32, 32, 32, 33, 128, 256, 65535]);
+    let (labels, k) = random.pick(&[(1, 1), (1, 2), (2, 2), (8, 1), (1, 3)]);
+    let mut edges = Vec::new();
+    for _ in 0..random.between(0, 60) {
+        edges.extend([random.below(32), random.below(32), random.below(labels)].map(|n| n as u32));
+    }
+    let (labels, k) = (labels as u32, k);
+    let plan = Plan {
+        items,
+        labels,
+        k,
+        edges,
+    };
+    frames(random, &plan)
+}
+
+/// A few loops with many labels: about as many entries as there is room for. A lone item with
+/// n loops lists 1 + 2n + (2n)² + .. entries; 2,048 is passed between 6 and 7 labels at k = 3.
+fn entry_limit(random: &mut Random) -> Vec<Vec<u8>> {
+    let labels = random.between(5, 8) as u32;
+    let items = random.between(1, 2) as u32;
+    let mut edges = Vec::new();
+    for label in 0..labels {
+        edges.extend([0, items - 1, label]);
+    }
+    let plan = Plan {
+        items,
+        labels,
+        k: 3,
+        edges,
+    };
+    frames(random, &plan)
+}
+
+/// One thing that may leave the frame.
+fn spoil(random: &mut Random, lines: &mut Vec<Vec<u8>>) {
+    let place = random.below(lines.len() + 1);
+    let digits = random.pick(&[508, 510, 511, 512, 513, 514, 600]);
+    let new: Vec<u8> = match random.below(12) {
+        0 => b"".to_vec(),
+        1 => sizes(2, 1, 1),
+        2 => edge(&[0, 0, 0]),
+        3 => b"03".to_vec(),
+        4 => [b"03".to_vec(), vec![b'0'; digits - 2]].concat(),
+        5 => random
+            .pick(&[&b"00"[..], b"04", b"81", b"FF", b"0", b"3", b"83"])
+            .to_vec(),
+        6 => edge(&[40, 0, 0]),
+        7 => {
+            lines.truncate(place);
+            return;
+        }
+        8 => {
+            lines.drain(..1.min(lines.len()));
+            return;
+        }
+        _ => {
+            if place < lines.len() {
+                spoil_line(random, &mut lines[place]);
+            }
+            return;
+        }
+    };
+    lines.insert(place, new);
+}
+
+/// A line loses or gains something, or has lower-case digits.
+fn spoil_line(random: &mut Random, line: &mut Vec<u8>) {
+    match random.below(7) {
+        0 => line.make_ascii_lowercase(),
+        1 => line.push(b'\r'),
+        2 => line.truncate(line.len().saturating_sub(1)),
+        3 => line.push(b'0'),
+        4 => line.extend(b"00"),
+        5 => line.insert(0, b' '),
+        _ => line.truncate(random.below(line.len() + 1)),
+    }
+}
