@@ -70,9 +70,14 @@ pub fn library(seed: u64, count: u64, command: &[&str]) -> Result<bool, String> 
         compare_case(&mut tally, seed, index, got.as_deref());
     }
     if silent {
+        // It has ended, or takes too long: a case above tells.
         let _ = child.kill();
-    } else if lines.recv_timeout(CASE_LIMIT).is_ok() {
+        child.wait().map_err(|error| error.to_string())?;
+        return Ok(tally.finish());
+    }
+    if lines.recv_timeout(CASE_LIMIT).is_ok() {
         tally.failure(|| "the command prints more lines than there are cases".to_string());
+        drop(lines);
     }
     let status = child.wait().map_err(|error| error.to_string())?;
     if !status.success() {

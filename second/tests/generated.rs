@@ -24,6 +24,26 @@ fn runs_are_only_another_way_to_write() {
     assert_eq!(case.expected(), "0 0 0 4 3 0 4 4 4 5 3*1");
 }
 
+/// The examples of docs/TRIAL.md.
+#[test]
+fn documented_examples() {
+    let examples = [
+        ("P 1 3 0 2 4 4 0 5 1 4", "0 0 0 2 3 0 2 4 4 0 5 1 4"),
+        (
+            "D 4 2 9 0 2 0 1 2 0 3 2 1 3 1 2 32 5 5*900 146 146*7",
+            "0 4 0 0 9 0 2 0 1 2 0 3 2 1 3 1 2 32 5 0 1 4 5 900 146 144*0 7 7",
+        ),
+        (
+            "D 4 2 9 0 2 0 1 2 0 3 2 1 3 1 2 32 3 3*900 146 146*7",
+            "13 4 0 0 9 0 2 0 1 2 0 3 2 1 3 1 2 32 3 3*900 146 144*0 7 7",
+        ),
+    ];
+    for (line, expected) in examples {
+        let case = Case::parse(line).expect("a good line");
+        assert_eq!(case.expected(), expected);
+    }
+}
+
 #[test]
 fn lines_that_are_no_case() {
     let lines = [

@@ -110,14 +110,14 @@ pub fn damage(random: &mut Random, plan: &Plan, stored: &mut Stored) {
     let remake = !random.once_in(3);
     match random.below(10) {
         0 | 1 => change_number(random, &mut stored.levels[i - 1]),
-        2 => merge(random, &mut stored.levels[i - 1]),
+        2 => merge(random, &graph, &mut stored.levels[i - 1]),
         3 => {
-            merge(random, &mut stored.levels[i - 1]);
+            merge(random, &graph, &mut stored.levels[i - 1]);
             stored.remake_above(&graph, i);
         }
         4 => split(random, &mut stored.levels[i - 1]),
         5 => exchange(random, &mut stored.levels[i - 1]),
-        6 => one_way(&graph, stored, i),
+        6 => one_way(random, &graph, stored, i),
         7 => stored.levels[i - 1] = stored.levels[i.max(2) - 2].clone(),
         _ => {
             damage_list(random, stored);
@@ -152,15 +152,26 @@ fn change_number(random: &mut Random, level: &mut [u32]) {
     level[place] = random.pick(&choices);
 }
 
-/// Two classes become one.
-fn merge(random: &mut Random, level: &mut Vec<u32>) {
-    let largest = lists::class_count(level) as usize;
-    if largest < 2 {
+/// Two classes become one; mostly two that rule B does not tell apart.
+fn merge(random: &mut Random, graph: &Graph, level: &mut Vec<u32>) {
+    *level = renumbered(level);
+    let firsts = lists::first_positions(level);
+    if firsts.is_empty() {
         return;
     }
-    let (one, other) = (random.between(1, largest), random.between(1, largest));
-    for number in level.iter_mut().filter(|number| **number as usize == one) {
-        *number = other as u32;
+    let one = random.below(firsts.len());
+    let symbols = |class: usize| {
+        let first = firsts[class];
+        graph.symbols_from_to(first / graph.items, first % graph.items)
+    };
+    let near = |class: &usize| *class != one && symbols(*class) == symbols(one);
+    let mut others: Vec<usize> = (0..firsts.len()).filter(near).collect();
+    if others.is_empty() || random.once_in(6) {
+        others = (0..firsts.len()).collect();
+    }
+    let other = random.pick(&others) as u32 + 1;
+    for number in level.iter_mut().filter(|number| **number == one as u32 + 1) {
+        *number = other;
     }
     if !random.once_in(4) {
         *level = renumbered(level);
@@ -184,27 +195,29 @@ fn exchange(random: &mut Random, level: &mut [u32]) {
     }
 }
 
-/// A level numbered without the second half of rule C: a pair joins the first class whose first
-/// pair has a twin for each of its midpoints.
-fn one_way(graph: &Graph, stored: &mut Stored, i: usize) {
+/// A level numbered with one half of rule C alone: a pair joins the first class whose first pair
+/// has a twin for each of its midpoints, or the first whose midpoints all have twins here.
+fn one_way(random: &mut Random, graph: &Graph, stored: &mut Stored, i: usize) {
     let connected = graph.connected_within(i);
     let below = (i > 1).then(|| Below {
         numbers: &stored.levels[i - 2],
         connected: graph.connected_within(i - 1),
     });
-    let mut firsts = Vec::new();
+    let poorer = random.once_in(2);
+    let mut firsts: Vec<Traits> = Vec::new();
     let mut level = vec![0; graph.items * graph.items];
-    for (position, number) in level.iter_mut().enumerate() {
-        if connected.has_position(position) {
-            let (v, u) = (position / graph.items, position % graph.items);
-            let own = traits(graph, below.as_ref(), v, u);
-            let joins =
-                |first: &Traits| own.0 == first.0 && own.1 == first.1 && own.2.is_subset(&first.2);
-            let class = firsts.iter().position(joins).unwrap_or(firsts.len());
-            if class == firsts.len() {
-                firsts.push(own);
-            }
-            *number = class as u32 + 1;
+    for position in connected.positions() {
+        let position = position as usize;
+        let (v, u) = (position / graph.items, position % graph.items);
+        let own = traits(graph, below.as_ref(), v, u);
+        let joins = |first: &Traits| {
+            let (few, many) = if poorer { (&own, first) } else { (first, &own) };
+            few.0 == many.0 && few.1 == many.1 && few.2.is_subset(&many.2)
+        };
+        let class = firsts.iter().position(joins).unwrap_or(firsts.len());
+        level[position] = class as u32 + 1;
+        if class == firsts.len() {
+            firsts.push(own);
         }
     }
     stored.levels[i - 1] = level;

@@ -99,6 +99,9 @@ fn edges(random: &mut Random, items: usize, labels: usize) -> Vec<u32> {
     for _ in 0..random.pick(&[0, 1, 2, items, 2 * items]) {
         add_edge(random, &mut edges, items, labels);
     }
+    if random.once_in(6) {
+        symmetric(random, &mut edges, items, labels);
+    }
     if random.once_in(6) && !edges.is_empty() {
         let repeated = edges[..3 * random.between(1, edges.len() / 3)].to_vec();
         edges.extend(repeated);
@@ -152,6 +155,21 @@ fn copies(random: &mut Random, edges: &mut Vec<u32>, items: usize, labels: usize
             if !random.once_in(20) {
                 edges.extend([edge[0] + shift, edge[1] + shift, edge[2]]);
             }
+        }
+    }
+}
+
+/// Each edge goes both ways, and some items have loops: then the same symbols lead from an item
+/// to itself and to another, and rule A alone tells the pairs apart.
+fn symmetric(random: &mut Random, edges: &mut Vec<u32>, items: usize, labels: usize) {
+    let back: Vec<u32> = edges
+        .chunks(3)
+        .flat_map(|edge| [edge[1], edge[0], edge[2]])
+        .collect();
+    edges.extend(back);
+    for item in 0..items as u32 {
+        if random.once_in(2) {
+            edges.extend([item, item, random.below(labels) as u32]);
         }
     }
 }
