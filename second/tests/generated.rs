@@ -102,3 +102,20 @@ fn every_refusal_of_the_program_occurs() {
         assert!(met.contains(&start), "refusal {number}");
     }
 }
+
+/// Just as many entries as there is room for, one less and one more; as many answers.
+#[test]
+fn inputs_meet_the_limits() {
+    let mut met = BTreeSet::new();
+    for index in 0..2000 {
+        let printed = answer(&inputs::input(1, index));
+        met.extend(printed.split(|byte| *byte == b'\n').map(<[u8]>::to_vec));
+    }
+    let ends = |end: &[u8]| {
+        met.iter()
+            .any(|line| line.starts_with(b"81") && line.ends_with(end))
+    };
+    assert!(ends(b"07FF") && ends(b"0800"));
+    assert!(met.contains(b"FF0600000801".as_slice()));
+    assert!(met.iter().any(|line| line.starts_with(b"830400")));
+}

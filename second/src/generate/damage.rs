@@ -107,45 +107,55 @@ fn split(random: &mut Random, level: &mut Vec<u32>) {
 pub fn damage(random: &mut Random, plan: &Plan, stored: &mut Stored) {
     let graph = plan.graph();
     let i = random.between(1, stored.levels.len());
-    let remake = !random.once_in(3);
-    match random.below(10) {
-        0 | 1 => change_number(random, &mut stored.levels[i - 1]),
-        2 => merge(random, &graph, &mut stored.levels[i - 1]),
-        3 => {
-            merge(random, &graph, &mut stored.levels[i - 1]);
-            stored.remake_above(&graph, i);
+    let level = &mut stored.levels[i - 1];
+    match random.below(12) {
+        0 | 1 => change_number(random, level),
+        2 | 3 => merge(random, &graph, level),
+        4 => split(random, level),
+        5 => exchange(random, level),
+        6..=8 => {
+            one_way(random, &graph, stored);
+            return stored.remake_lists(&graph);
         }
-        4 => split(random, &mut stored.levels[i - 1]),
-        5 => exchange(random, &mut stored.levels[i - 1]),
-        6 => one_way(random, &graph, stored, i),
-        7 => stored.levels[i - 1] = stored.levels[i.max(2) - 2].clone(),
-        _ => {
-            damage_list(random, stored);
-            return;
-        }
+        9 => stored.levels[i - 1] = stored.levels[i.max(2) - 2].clone(),
+        _ => return damage_list(random, stored),
     }
-    if remake {
+    if random.once_in(2) {
+        stored.remake_above(&graph, i);
+    }
+    if !random.once_in(3) {
         stored.remake_lists(&graph);
     }
 }
 
-/// One number of a level becomes another: too small, too large, or another class.
-fn change_number(random: &mut Random, level: &mut [u32]) {
+/// One number of a level becomes another: too small, too large, another class, or a new class of
+/// one pair.
+fn change_number(random: &mut Random, level: &mut Vec<u32>) {
     if level.is_empty() {
         return;
     }
-    let largest = lists::class_count(level);
-    let place = random.below(level.len());
-    let other = random.below(level.len());
+    let mut place = random.below(level.len());
+    let zeros: Vec<usize> = (0..level.len()).filter(|zero| level[*zero] == 0).collect();
+    if !zeros.is_empty() && random.once_in(3) {
+        place = random.pick(&zeros);
+    }
+    let next = lists::class_count(level).saturating_add(1);
+    if random.once_in(3) {
+        level[place] = next;
+        *level = renumbered(level);
+        return;
+    }
+    let other = level[random.below(level.len())];
     let beyond = level.len() as u32 + random.below(3) as u32;
+    let after = next.saturating_add(1);
     let choices = [
         0,
         1,
-        largest,
-        largest.saturating_add(1),
-        largest.saturating_add(2),
+        next - 1,
+        next,
+        after,
         beyond,
-        level[other],
+        other,
         u32::MAX - 1,
         u32::MAX,
     ];
@@ -197,7 +207,9 @@ fn exchange(random: &mut Random, level: &mut [u32]) {
 
 /// A level numbered with one half of rule C alone: a pair joins the first class whose first pair
 /// has a twin for each of its midpoints, or the first whose midpoints all have twins here.
-fn one_way(random: &mut Random, graph: &Graph, stored: &mut Stored, i: usize) {
+fn one_way(random: &mut Random, graph: &Graph, stored: &mut Stored) {
+    let k = stored.levels.len();
+    let i = random.between(k.min(2), k);
     let connected = graph.connected_within(i);
     let below = (i > 1).then(|| Below {
         numbers: &stored.levels[i - 2],

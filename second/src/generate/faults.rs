@@ -45,7 +45,7 @@ fn faults_of(entry: char) -> &'static [Fault] {
 
 /// None, one, or several at once: that tests the order of refusals.
 pub fn put_faults(random: &mut Random, case: &mut Case) {
-    let count = random.pick(&[0, 0, 0, 0, 0, 0, 0, 0, 0, 0, 0, 1, 1, 1, 1, 1, 2, 2, 3]);
+    let count = random.pick(&[0, 0, 0, 0, 0, 0, 0, 0, 0, 0, 1, 1, 1, 1, 1, 2, 2, 2, 3, 3]);
     for _ in 0..count {
         let fault = random.pick(faults_of(case.entry));
         put_fault(random, case, fault);
@@ -152,33 +152,28 @@ pub fn spoil_lists(random: &mut Random, table: &mut [u32], entries: &mut Vec<u32
 /// code, entries out of order.
 fn spoil_entries(random: &mut Random, entries: &mut Vec<u32>) {
     let count = entries.len() / 2;
-    let place = 2 * random.below(count + 1);
+    let mut place = 2 * random.below(count + 1);
     let mut code = random.pick(&[0, 1, 2, 3, 4, 16, 17, 18, 19, 83_520, u32::MAX]);
     if count > 0 && random.once_in(2) {
-        code = entries[2 * random.below(count)];
+        // a code that is listed, mostly in its own run and mostly of one step
+        let among = random.pick(&[8, 20, count]).min(count);
+        let listed = 2 * random.below(among);
+        code = entries[listed];
+        place = if random.once_in(4) { place } else { listed };
     }
     let class = random.pick(&[0, 1, 2, 3, 200, u32::MAX, u32::MAX - 1]);
     let after = code.wrapping_add(1);
-    let added: &[u32] = match random.below(9) {
-        0 => &[code, 0],
-        1 => &[code, class],
-        2 | 3 => &[code, class, after, class, code, 1],
-        4 => {
-            entries.push(code);
-            return;
-        }
-        5 => {
-            entries.truncate(place + 1);
-            return;
-        }
-        6 if place < entries.len() => {
+    let added: &[u32] = match random.below(10) {
+        0 | 1 => &[code, 0],
+        2 => &[code, class],
+        3 | 4 => &[code, class, after, class, code, 1],
+        5 => return entries.push(code),
+        6 => return entries.truncate(place + 1),
+        7 if place < entries.len() => {
             entries[place] = code;
             return;
         }
-        _ => {
-            swap_entries(random, entries);
-            return;
-        }
+        _ => return swap_entries(random, entries),
     };
     entries.splice(place..place, added.iter().copied());
 }
@@ -202,9 +197,11 @@ fn spoil_table(random: &mut Random, table: &mut [u32]) {
         return;
     }
     for _ in 0..random.between(1, table.len()) {
-        let (place, other) = (random.below(table.len()), random.below(table.len()));
+        let other = table[random.below(table.len())];
         let above = table.len() as u32 + 1;
-        let choices = [0, 1, 2, 3, 200, above, u32::MAX, u32::MAX - 1, table[other]];
+        let small = random.below(4) as u32;
+        let place = random.below(table.len());
+        let choices = [0, 0, small, above, u32::MAX, u32::MAX - 1, other, other];
         table[place] = random.pick(&choices);
     }
 }

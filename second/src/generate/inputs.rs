@@ -1,21 +1,20 @@
 //! Whole inputs of the program `answer`: the input of a seed and an index.
 
 use super::graphs::{self, Plan};
-use super::queries;
 use super::random::Random;
+use super::{limits, queries};
 
 pub fn input(seed: u64, index: u64) -> Vec<u8> {
     let random = &mut Random::new(seed ^ 0x616E_7377_6572, index);
-    let mut lines = match random.below(100) {
-        0 => edge_limit(random),
-        1..=2 => all_items(random),
-        3..=5 => entry_limit(random),
-        6 => Vec::new(),
-        _ => {
-            let plan = graphs::small(random);
-            frames(random, &plan)
-        }
+    let plan = match random.below(100) {
+        0 => limits::edges(random),
+        1..=2 => limits::items(random),
+        3..=4 => limits::entries(random),
+        5 => limits::exact_entries(random),
+        6 => limits::answers(),
+        _ => graphs::small(random),
     };
+    let mut lines = frames(random, &plan);
     for _ in 0..random.pick(&[0, 0, 0, 0, 1, 1, 2]) {
         spoil(random, &mut lines);
     }
@@ -79,50 +78,6 @@ fn tokens_line(tokens: &[u8]) -> Vec<u8> {
         line.push_str(&format!("{token:02X}"));
     }
     line.into_bytes()
-}
-
-/// 1,024 edges, or one more.
-fn edge_limit(random: &mut Random) -> Vec<Vec<u8>> {
-    let mut plan = graphs::many_edges(random);
-    plan.edges
-        .truncate(3 * random.pick(&[1023, 1024, 1024, 1025]));
-    frames(random, &plan)
-}
-
-/// 32 items, or one more.
-fn all_items(random: &mut Random) -> Vec<Vec<u8>> {
-    let items = random.pick(&[31, 32, 32, 32, 33, 128, 256, 65535]);
-    let (labels, k) = random.pick(&[(1, 1), (1, 2), (2, 2), (8, 1), (1, 3)]);
-    let mut edges = Vec::new();
-    for _ in 0..random.between(0, 60) {
-        edges.extend([random.below(32), random.below(32), random.below(labels)].map(|n| n as u32));
-    }
-    let (labels, k) = (labels as u32, k);
-    let plan = Plan {
-        items,
-        labels,
-        k,
-        edges,
-    };
-    frames(random, &plan)
-}
-
-/// A few loops with many labels: about as many entries as there is room for. A lone item with
-/// n loops lists 1 + 2n + (2n)² + .. entries; 2,048 is passed between 6 and 7 labels at k = 3.
-fn entry_limit(random: &mut Random) -> Vec<Vec<u8>> {
-    let labels = random.between(5, 8) as u32;
-    let items = random.between(1, 2) as u32;
-    let mut edges = Vec::new();
-    for label in 0..labels {
-        edges.extend([0, items - 1, label]);
-    }
-    let plan = Plan {
-        items,
-        labels,
-        k: 3,
-        edges,
-    };
-    frames(random, &plan)
 }
 
 /// One thing that may leave the frame.

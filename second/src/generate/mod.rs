@@ -7,6 +7,7 @@ pub mod damage;
 pub mod faults;
 pub mod graphs;
 pub mod inputs;
+pub mod limits;
 pub mod parts;
 pub mod queries;
 pub mod random;
