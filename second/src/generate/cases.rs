@@ -134,6 +134,9 @@ fn stored_case(random: &mut Random, entry: char, mut plan: Plan) -> Case {
     let mut last = stored.levels[plan.k as usize - 1].clone();
     let mut entries = stored.entries;
     faults::spoil_lists(random, &mut last, &mut entries);
+    if random.once_in(6) {
+        faults::list_class_0(random, plan.labels, &mut last, &mut entries);
+    }
     case.lists[0][..last.len()].copy_from_slice(&last);
     case.lists[1] = entries;
     if entry == 'K' && !random.once_in(3) {

@@ -148,6 +148,20 @@ pub fn spoil_lists(random: &mut Random, table: &mut [u32], entries: &mut Vec<u32
     }
 }
 
+/// A step lists class 0, and pairs have the number 0: they are no pairs of a class for that.
+pub fn list_class_0(random: &mut Random, labels: u32, table: &mut [u32], entries: &mut Vec<u32>) {
+    let symbol = random.between(1, 2 * labels as usize) as u32;
+    let run = entries.chunks(2).position(|entry| entry[0] == symbol);
+    let place = 2 * run.unwrap_or(entries.len() / 2);
+    entries.splice(place..place, [symbol, 0]);
+    for _ in 0..random.between(1, 4) {
+        if !table.is_empty() {
+            let place = random.below(table.len());
+            table[random.pick(&[0, place])] = 0;
+        }
+    }
+}
+
 /// A lone last number, an entry of class 0 or of a class that is not there, a second run of a
 /// code, entries out of order.
 fn spoil_entries(random: &mut Random, entries: &mut Vec<u32>) {

@@ -83,33 +83,29 @@ fn tokens_line(tokens: &[u8]) -> Vec<u8> {
 /// One thing that may leave the frame.
 fn spoil(random: &mut Random, lines: &mut Vec<Vec<u8>>) {
     let place = random.below(lines.len() + 1);
+    match random.below(13) {
+        0 => lines.push(random.pick(&[&b""[..], b"", b"\r", b" "]).to_vec()),
+        1 => lines.truncate(place),
+        2 => drop(lines.drain(..1.min(lines.len()))),
+        3..=8 => lines.insert(place, new_line(random)),
+        _ if place < lines.len() => spoil_line(random, &mut lines[place]),
+        _ => (),
+    }
+}
+
+/// A line that does not stand everywhere, or nowhere at all.
+fn new_line(random: &mut Random) -> Vec<u8> {
     let digits = random.pick(&[508, 510, 511, 512, 513, 514, 600]);
-    let new: Vec<u8> = match random.below(12) {
-        0 => b"".to_vec(),
+    let other = random.pick(&[&b"00"[..], b"04", b"81", b"FF", b"0", b"3", b"83"]);
+    match random.below(7) {
+        0 => random.pick(&[&b""[..], b"", b"\r"]).to_vec(),
         1 => sizes(2, 1, 1),
         2 => edge(&[0, 0, 0]),
-        3 => b"03".to_vec(),
-        4 => [b"03".to_vec(), vec![b'0'; digits - 2]].concat(),
-        5 => random
-            .pick(&[&b"00"[..], b"04", b"81", b"FF", b"0", b"3", b"83"])
-            .to_vec(),
-        6 => edge(&[40, 0, 0]),
-        7 => {
-            lines.truncate(place);
-            return;
-        }
-        8 => {
-            lines.drain(..1.min(lines.len()));
-            return;
-        }
-        _ => {
-            if place < lines.len() {
-                spoil_line(random, &mut lines[place]);
-            }
-            return;
-        }
-    };
-    lines.insert(place, new);
+        3 => edge(&[40, 0, 0]),
+        4 => b"03".to_vec(),
+        5 => [b"03".to_vec(), vec![b'0'; digits - 2]].concat(),
+        _ => other.to_vec(),
+    }
 }
 
 /// A line loses or gains something, or has lower-case digits.
