@@ -48,10 +48,16 @@ fn oversize(random: &mut Random) -> Case {
     blank(random, entry, &plan)
 }
 
-/// A case into which faults may have been put.
+/// A case into which faults may have been put. Checks get them less often: what is damaged in
+/// their tables shows only past refusals 1 to 5.
 fn faulty(random: &mut Random, entry: char, plan: Plan) -> Case {
     let mut case = good(random, entry, plan);
-    if !matches!(entry, 'P' | 'L') {
+    let spared = match entry {
+        'P' | 'L' => true,
+        'C' => !random.once_in(3),
+        _ => false,
+    };
+    if !spared {
         faults::put_faults(random, &mut case);
     }
     case
