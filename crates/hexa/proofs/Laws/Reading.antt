@@ -1,0 +1,79 @@
+-- Reading a number digit by digit: a turn of the loop that reads, and how large a number can be.
+-- Assumes nothing.
+use mathlib.Core.Path.{_≡_, refl}
+use mathlib.Core.List.{List}
+use Prim.Native.Nat.{ℕ, zero, suc, _+_, _*_, _^_, _≤_, _<_}
+use native.Mathlib.Nat.{pow-suc, pow-le-pow-right}
+use native.Mathlib.Decide.{le-ind}
+use native.Mathlib.Omega.{arith}
+use lib.ListN.{getD}
+use Rattle.hexa.specs.Digits.{valueOf, andDigit, numberAt}
+use Rattle.hexa.specs.declared.Read.{Read}
+use Rattle.hexa.specs.declared.Read.the-variants.{Number, Bad}
+use Rattle.hexa.proofs.Laws.Digit.{bad-number, digit-of-value}
+
+-- before the first digit
+pub number-none : (s : List ℕ) (at : ℕ) → numberAt s at 0 ≡ Number 0
+unfolding numberAt
+number-none s at = refl
+
+-- one digit more
+pub number-more : (s : List ℕ) (at d x v : ℕ) → numberAt s at d ≡ Number x → valueOf (getD s (at + d) 255) ≡ Number v → numberAt s at (suc d) ≡ Number (x * 16 + v)
+unfolding numberAt andDigit
+number-more s at d x v e f = rw (e, f)
+
+-- a byte that is no digit ends it, whatever stands behind
+bad-next : (s : List ℕ) (at d x : ℕ) → numberAt s at d ≡ Number x → valueOf (getD s (at + d) 255) ≡ Bad → numberAt s at (suc d) ≡ Bad
+unfolding numberAt andDigit
+bad-next s at d x e f = rw (e, f)
+
+bad-more : (s : List ℕ) (at d : ℕ) → numberAt s at d ≡ Bad → numberAt s at (suc d) ≡ Bad
+unfolding numberAt andDigit
+bad-more s at d e = rw e
+
+pub number-bad : (s : List ℕ) (at i d x : ℕ) → i < d → numberAt s at i ≡ Number x → valueOf (getD s (at + i) 255) ≡ Bad → numberAt s at d ≡ Bad
+number-bad s at i d x h e f = le-ind (λ (m : ℕ). numberAt s at m ≡ Bad) (bad-next s at i x e f) (λ m _ p. bad-more s at m p) d h
+
+-- a number of one digit more, taken apart
+pub record Parts (s : List ℕ) (at d x : ℕ) : Type 0 where
+  pub before : ℕ
+  pub value : ℕ
+  pub was : numberAt s at d ≡ Number before
+  pub last : valueOf (getD s (at + d) 255) ≡ Number value
+  pub sum : x ≡ before * 16 + value
+
+record Both (r t : Read) (x : ℕ) : Type 0 where
+  m : ℕ
+  v : ℕ
+  left : r ≡ Number m
+  right : t ≡ Number v
+  all : x ≡ m * 16 + v
+
+both : (r t : Read) (x : ℕ) → andDigit r t ≡ Number x → Both r t x
+unfolding andDigit
+both (Number m) (Number v) x e = record { m = m; v = v; left = refl; right = refl; all = cc }
+both (Number m) Bad x e = bad-number x e
+both Bad t x e = bad-number x e
+
+pub number-parts : (s : List ℕ) (at d x : ℕ) → numberAt s at (suc d) ≡ Number x → Parts s at d x
+unfolding numberAt
+number-parts s at d x e =
+    let p : Both (numberAt s at d) (valueOf (getD s (at + d) 255)) x = both _ _ x e in
+    record { before = p .m; value = p .v; was = p .left; last = p .right; sum = p .all }
+
+-- d digits hold a number below 16 ^ d
+pub below-more : (d x v : ℕ) → x < 16 ^ d → v < 16 → x * 16 + v < 16 ^ suc d
+below-more d x v h k = omega (arith, pow-suc 16 d)
+
+room : (i d : ℕ) → i ≤ d → 16 ^ i ≤ 16 ^ d
+room i d h = pow-le-pow-right (omega arith) h
+
+pub below-wider : (i d x : ℕ) → i ≤ d → x < 16 ^ i → x < 16 ^ d
+below-wider i d x h k = omega (arith, room i d h)
+
+pub number-below : (s : List ℕ) (at d x : ℕ) → numberAt s at d ≡ Number x → x < 16 ^ d
+unfolding numberAt
+number-below s at zero x e = let z : 0 ≡ x = cc in omega arith
+number-below s at (suc d) x e =
+    let p : Parts s at d x = number-parts s at d x e in
+    rw (p .sum) (below-more d (p .before) (p .value) (number-below s at d (p .before) (p .was)) (digit-of-value _ _ (p .last) .small))
