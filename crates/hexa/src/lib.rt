@@ -1,9 +1,12 @@
 // Upper-case hexadecimal: the value of a digit, a number read at a place of a line, and a number written at a place of an output.
 ghost use mathlib.Core.Path.{_≡_};
 ghost use Prim.Native.Nat.{_+_, _%_, _≤_};
+ghost use lib.Dec.{eqb};
 ghost use lib.ListN.{length, getD};
 ghost use lib.Seq.{sets};
 ghost use Rattle.hexa.specs.Digits.{valueOf, digitOf, numberAt, spelling};
+
+pub mod frame; // the reader of one frame, which holds its line
 
 // A number that was read, or none: a byte that is no upper-case digit, or the end of the line.
 pub enum Read {
@@ -50,6 +53,13 @@ pub fn number_at(s: &[u8], at: usize, d: usize) -> Read
         i += 1;
     }
     Read::Number(x)
+}
+
+// Whether s ends at a place.
+pub fn ends_at(s: &[u8], at: usize) -> bool
+    ensures { λ r. ⌜ r ≡ eqb at (length (now (s .entry))) ⌝ }
+{
+    at == s.len()
 }
 
 // The last digit of a number.
