@@ -26,10 +26,14 @@ andDigit (Number x) (Number v) = Number (x * 16 + v)
 andDigit (Number x) Bad = Bad
 andDigit Bad r = Bad
 
+-- what stands past the end of a line: a byte that is no digit
+abbrev pub pastEnd : ℕ
+pastEnd = 255
+
 -- the number of d digits at a place of s; a place past the end holds no digit
 unfoldable pub numberAt : List ℕ → ℕ → ℕ → Read
 numberAt s at zero = Number 0
-numberAt s at (suc d) = andDigit (numberAt s at d) (valueOf (getD s (at + d) 255))
+numberAt s at (suc d) = andDigit (numberAt s at d) (valueOf (getD s (at + d) pastEnd))
 
 -- the last d digits of x, put before a rest
 unfoldable pub putDigits : ℕ → ℕ → List ℕ → List ℕ

@@ -4,7 +4,7 @@ ghost use Prim.Native.Nat.{_+_, _%_, _≤_};
 ghost use lib.Dec.{eqb};
 ghost use lib.ListN.{length, getD};
 ghost use lib.Seq.{sets};
-ghost use Rattle.hexa.specs.Digits.{valueOf, digitOf, numberAt, spelling};
+ghost use Rattle.hexa.specs.Digits.{valueOf, pastEnd, digitOf, numberAt, spelling};
 
 pub mod frame; // the reader of one frame, which holds its line
 
@@ -25,15 +25,18 @@ pub fn digit_value(b: u8) -> Read
     }
 }
 
-// The byte i places past `at`, and 255, which is no digit, past the end. No sum of places can wrap, wherever `at` is.
+// What stands past the end of a line: a byte that is no digit.
+const PAST_END: u8 = 255;
+
+// The byte i places past `at`, or what stands past the end. No sum of places can wrap, wherever `at` is.
 pub fn byte_at(s: &[u8], at: usize, i: usize) -> u8
-    ensures { λ r. ⌜ r ≡ getD (now (s .entry)) (at + i) 255 ⌝ }
+    ensures { λ r. ⌜ r ≡ getD (now (s .entry)) (at + i) pastEnd ⌝ }
 {
     if s.len() <= at {
-        return 255;
+        return PAST_END;
     }
     if s.len() - at <= i {
-        return 255;
+        return PAST_END;
     }
     s[at + i]
 }

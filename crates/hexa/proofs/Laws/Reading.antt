@@ -1,13 +1,14 @@
 -- Reading a number digit by digit: a turn of the loop that reads, and how large a number can be.
 -- Assumes nothing.
-use mathlib.Core.Path.{_≡_, refl}
+use mathlib.Core.Path.{_≡_, refl, ap, _∙_}
 use mathlib.Core.List.{List}
 use Prim.Native.Nat.{ℕ, zero, suc, _+_, _*_, _^_, _≤_, _<_}
 use native.Mathlib.Nat.{pow-suc, pow-le-pow-right}
 use native.Mathlib.Decide.{le-ind}
 use native.Mathlib.Omega.{arith}
-use lib.ListN.{getD}
-use Rattle.hexa.specs.Digits.{valueOf, andDigit, numberAt}
+use lib.ListN.{getD, drop}
+use lib.Seq.{getD-drop}
+use Rattle.hexa.specs.Digits.{pastEnd, valueOf, andDigit, numberAt}
 use Rattle.hexa.specs.declared.Read.{Read}
 use Rattle.hexa.specs.declared.Read.the-variants.{Number, Bad}
 use Rattle.hexa.proofs.Laws.Digit.{bad-number, digit-of-value}
@@ -18,12 +19,12 @@ unfolding numberAt
 number-none s at = refl
 
 -- one digit more
-pub number-more : (s : List ℕ) (at d x v : ℕ) → numberAt s at d ≡ Number x → valueOf (getD s (at + d) 255) ≡ Number v → numberAt s at (suc d) ≡ Number (x * 16 + v)
+pub number-more : (s : List ℕ) (at d x v : ℕ) → numberAt s at d ≡ Number x → valueOf (getD s (at + d) pastEnd) ≡ Number v → numberAt s at (suc d) ≡ Number (x * 16 + v)
 unfolding numberAt andDigit
 number-more s at d x v e f = rw (e, f)
 
 -- a byte that is no digit ends it, whatever stands behind
-bad-next : (s : List ℕ) (at d x : ℕ) → numberAt s at d ≡ Number x → valueOf (getD s (at + d) 255) ≡ Bad → numberAt s at (suc d) ≡ Bad
+bad-next : (s : List ℕ) (at d x : ℕ) → numberAt s at d ≡ Number x → valueOf (getD s (at + d) pastEnd) ≡ Bad → numberAt s at (suc d) ≡ Bad
 unfolding numberAt andDigit
 bad-next s at d x e f = rw (e, f)
 
@@ -31,15 +32,23 @@ bad-more : (s : List ℕ) (at d : ℕ) → numberAt s at d ≡ Bad → numberAt 
 unfolding numberAt andDigit
 bad-more s at d e = rw e
 
-pub number-bad : (s : List ℕ) (at i d x : ℕ) → i < d → numberAt s at i ≡ Number x → valueOf (getD s (at + i) 255) ≡ Bad → numberAt s at d ≡ Bad
+pub number-bad : (s : List ℕ) (at i d x : ℕ) → i < d → numberAt s at i ≡ Number x → valueOf (getD s (at + i) pastEnd) ≡ Bad → numberAt s at d ≡ Bad
 number-bad s at i d x h e f = le-ind (λ (m : ℕ). numberAt s at m ≡ Bad) (bad-next s at i x e f) (λ m _ p. bad-more s at m p) d h
+
+-- reading behind n bytes is reading at a place n further on
+pub number-drop : (s : List ℕ) (n at d : ℕ) → numberAt (drop n s) at d ≡ numberAt s (n + at) d
+unfolding numberAt
+number-drop s n at zero = refl
+number-drop s n at (suc d) =
+    let b : getD (drop n s) (at + d) pastEnd ≡ getD s (n + at + d) pastEnd = getD-drop n s (at + d) pastEnd ∙ ap (λ (k : ℕ). getD s k pastEnd) (omega arith) in
+    ap (λ (r : Read). andDigit r (valueOf (getD (drop n s) (at + d) pastEnd))) (number-drop s n at d) ∙ ap (λ (x : ℕ). andDigit (numberAt s (n + at) d) (valueOf x)) b
 
 -- a number of one digit more, taken apart
 pub record Parts (s : List ℕ) (at d x : ℕ) : Type 0 where
   pub before : ℕ
   pub value : ℕ
   pub was : numberAt s at d ≡ Number before
-  pub last : valueOf (getD s (at + d) 255) ≡ Number value
+  pub last : valueOf (getD s (at + d) pastEnd) ≡ Number value
   pub sum : x ≡ before * 16 + value
 
 record Both (r t : Read) (x : ℕ) : Type 0 where
@@ -58,7 +67,7 @@ both Bad t x e = bad-number x e
 pub number-parts : (s : List ℕ) (at d x : ℕ) → numberAt s at (suc d) ≡ Number x → Parts s at d x
 unfolding numberAt
 number-parts s at d x e =
-    let p : Both (numberAt s at d) (valueOf (getD s (at + d) 255)) x = both _ _ x e in
+    let p : Both (numberAt s at d) (valueOf (getD s (at + d) pastEnd)) x = both _ _ x e in
     record { before = p .m; value = p .v; was = p .left; last = p .right; sum = p .all }
 
 -- d digits hold a number below 16 ^ d

@@ -2,6 +2,7 @@
 -- Assumes nothing.
 use mathlib.Core.Path.{sym}
 use Prim.Native.Nat.{_%_}
+use native.Mathlib.Omega.{arith}
 use borrow.Author.Needs.{needs}
 use Rattle.hexa.proofs.Laws.Digit.{digit-low, digit-high}
 use Rattle.hexa.proofs.last_digit.Statement.{statement}
@@ -20,10 +21,10 @@ cast-result-2 : tie.Need-cast-result-2
 cast-result-2 c = search needs
 
 returns : tie.Need-returns
-returns c = sym (digit-low (c .before .args .x % 16) (c .if1 .taken))
+returns c = sym (digit-low (c .before .args .x % 16) (omega arith))
 
 returns-2 : tie.Need-returns-2
-returns-2 c = sym (digit-high (c .before .args .x % 16) (c .if1 .left))
+returns-2 c = sym (digit-high (c .before .args .x % 16) (omega arith))
 
 pub last-digit-spec : {M : Type 1} → statement M
 last-digit-spec =

@@ -6,7 +6,7 @@ use native.Mathlib.Numerals.{add-one}
 use native.Mathlib.Omega.{arith}
 use borrow.Author.Needs.{needs}
 use lib.ListN.{getD}
-use Rattle.hexa.specs.Digits.{numberAt, valueOf}
+use Rattle.hexa.specs.Digits.{pastEnd, numberAt, valueOf}
 use Rattle.hexa.specs.declared.Read.the-variants.{Number}
 use Rattle.hexa.proofs.Laws.Digit.{digit-of-value}
 use Rattle.hexa.proofs.Laws.Reading.{number-none, number-more, number-bad, below-more, below-wider}
@@ -21,7 +21,7 @@ abbrev μ-loop : tie.MeasureT-loop
 
 -- where a digit was read: the byte's value, and the number with it
 module _ (c : tie.After-known-told Inv-loop μ-loop) where
-  value : valueOf (getD (c .before .before .before .before .before .before .before .before .args .s .now) (c .before .before .before .before .before .before .before .before .args .at + c .before .before .before .before .before .before .loop .i) 255) ≡ Number (c .before .v .given .0 .0)
+  value : valueOf (getD (c .before .before .before .before .before .before .before .before .args .s .now) (c .before .before .before .before .before .before .before .before .args .at + c .before .before .before .before .before .before .loop .i) pastEnd) ≡ Number (c .before .v .given .0 .0)
   value = sym (ap valueOf (c .before .before .before .before .byte-at .ensures)) ∙ (sym (c .before .before .before .digit-value .ensures) ∙ c .before .v .given .1)
 
   more : c .before .before .before .before .before .before .loop .x * 16 + c .before .v .given .0 .0 < 16 ^ suc (c .before .before .before .before .before .before .loop .i)

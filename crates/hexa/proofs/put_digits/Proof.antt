@@ -5,8 +5,8 @@ use Prim.Native.Nat.{ℕ, suc, _+_, _≤_, _-_, _/_}
 use native.Mathlib.Omega.{arith}
 use lib.ListN.{length, set, length-set}
 use lib.Seq.{sets}
-use Rattle.hexa.specs.Digits.{putDigits, spelling}
-use Rattle.hexa.proofs.Laws.Writing.{sets-turn}
+use Rattle.hexa.specs.Digits.{spelling}
+use Rattle.hexa.proofs.Laws.Writing.{put-none, sets-turn}
 use Rattle.hexa.proofs.put_digits.Statement.{statement}
 use Rattle.hexa.proofs.put_digits.Tie as tie
 
@@ -48,10 +48,9 @@ same-length : tie.Need-same-length Inv-loop μ-loop
 same-length c = c .before .loop .inv .1
 
 returns : tie.Need-returns Inv-loop μ-loop
-unfolding putDigits
 returns c =
     let e : c .before .loop .i ≡ 0 = omega arith in
-    rw e at (c .before .loop .inv .2)
+    rw (e, put-none) at (c .before .loop .inv .2)
 
 pub put-digits-spec : {M : Type 1} → statement M
 put-digits-spec =
