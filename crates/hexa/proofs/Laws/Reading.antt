@@ -2,12 +2,15 @@
 -- Assumes nothing.
 use mathlib.Core.Path.{_≡_, refl, ap, _∙_}
 use mathlib.Core.List.{List}
+use mathlib.Core.Bool.{Bool, true, false}
 use Prim.Native.Nat.{ℕ, zero, suc, _+_, _*_, _^_, _≤_, _<_}
 use native.Mathlib.Nat.{pow-suc, pow-le-pow-right}
 use native.Mathlib.Decide.{le-ind}
 use native.Mathlib.Omega.{arith}
-use lib.ListN.{getD, drop}
+use lib.Dec.{ltb}
+use lib.ListN.{length, getD, drop, List·getD-eq-default}
 use lib.Seq.{getD-drop}
+use borrow.Author.Tests.{ltb-true, ltb-false}
 use Rattle.hexa.specs.Digits.{pastEnd, valueOf, andDigit, numberAt}
 use Rattle.hexa.specs.declared.Read.{Read}
 use Rattle.hexa.specs.declared.Read.the-variants.{Number, Bad}
@@ -69,6 +72,24 @@ unfolding numberAt
 number-parts s at d x e =
     let p : Both (numberAt s at d) (valueOf (getD s (at + d) pastEnd)) x = both _ _ x e in
     record { before = p .m; value = p .v; was = p .left; last = p .right; sum = p .all }
+
+-- past the end stands no digit, so a number that was read lies within the line, and one that would not is none
+by-end : (s : List ℕ) (i v : ℕ) (t : Bool) → ltb i (length s) ≡ t → valueOf (getD s i pastEnd) ≡ Number v → i < length s
+unfolding valueOf
+by-end s i v true e f = ltb-true _ _ e
+by-end s i v false e f = bad-number v (rw (List·getD-eq-default s pastEnd (ltb-false i (length s) e)) at f)
+
+pub number-within : (s : List ℕ) (at d x : ℕ) → numberAt s at (suc d) ≡ Number x → at + d < length s
+number-within s at d x e =
+    let p : Parts s at d x = number-parts s at d x e in
+    by-end s (at + d) (p .value) _ refl (p .last)
+
+by-answer : (s : List ℕ) (at d : ℕ) (r : Read) → numberAt s at (suc d) ≡ r → length s ≤ at + d → r ≡ Bad
+by-answer s at d (Number x) e h = absurd (omega (arith, number-within s at d x e))
+by-answer s at d Bad e h = refl
+
+pub number-past : (s : List ℕ) (at d : ℕ) → length s ≤ at + d → numberAt s at (suc d) ≡ Bad
+number-past s at d h = by-answer s at d (numberAt s at (suc d)) refl h
 
 -- d digits hold a number below 16 ^ d
 pub below-more : (d x v : ℕ) → x < 16 ^ d → v < 16 → x * 16 + v < 16 ^ suc d

@@ -2,18 +2,15 @@
 -- Assumes nothing.
 use mathlib.Core.Path.{_≡_, refl, sym, ap, _∙_}
 use mathlib.Core.List.{List, [], _∷_, _++_, append-assoc}
-use mathlib.Core.Bool.{Bool, true, false}
 use Prim.Native.Nat.{ℕ, zero, suc, _+_, _/_, _%_, _^_, _≤_, _<_}
 use native.Mathlib.Nat.{div-lt-iff-lt-mul, div-add-mod', mod-lt, add-zero, add-suc, pow-suc}
 use native.Mathlib.Omega.{arith}
-use lib.Dec.{ltb}
-use lib.ListN.{length, getD, drop, take, List·getD-eq-default}
+use lib.ListN.{length, getD, drop, take}
 use lib.Seq.{sets, sets-eq, drop-at, drop-cons, drop-drop, drop-length, getD-drop, length-take-le}
-use borrow.Author.Tests.{ltb-true, ltb-false}
 use Rattle.hexa.specs.Digits.{pastEnd, valueOf, digitOf, numberAt, putDigits, spelling}
 use Rattle.hexa.specs.declared.Read.the-variants.{Number}
-use Rattle.hexa.proofs.Laws.Digit.{bad-number, Digit, digit-of-value, value-of-digit}
-use Rattle.hexa.proofs.Laws.Reading.{number-drop, number-none, number-more, Parts, number-parts}
+use Rattle.hexa.proofs.Laws.Digit.{Digit, digit-of-value, value-of-digit}
+use Rattle.hexa.proofs.Laws.Reading.{number-within, number-drop, number-none, number-more, Parts, number-parts}
 use Rattle.hexa.proofs.Laws.Writing.{put-none, put-more, put-append, length-put, drop-put}
 
 -- the byte behind d digits
@@ -55,12 +52,6 @@ writes-reads l at d x h k =
     (sym (put-append d x [] (drop (at + length (spelling d x)) l))))
     k
 
--- past the end stands no digit
-by-end : (s : List ℕ) (i v : ℕ) (t : Bool) → ltb i (length s) ≡ t → valueOf (getD s i pastEnd) ≡ Number v → i < length s
-unfolding valueOf
-by-end s i v true e f = ltb-true _ _ e
-by-end s i v false e f = bad-number v (rw (List·getD-eq-default s pastEnd (ltb-false i (length s) e)) at f)
-
 -- what a number that was read says of the line: its d bytes, before what stands behind them, are the spelling
 pub one-spelling : (s : List ℕ) (at d x : ℕ) → numberAt s at d ≡ Number x → drop at s ≡ putDigits d x (drop (at + d) s)
 unfolding numberAt
@@ -71,7 +62,7 @@ one-spelling s at (suc d) x e =
     let q : p .before ≡ x / 16 = omega (arith, g .small, p .sum) in
     let u : p .value ≡ x % 16 = omega (arith, g .small, p .sum) in
     let b : drop (at + d) s ≡ digitOf (x % 16) ∷ drop (at + suc d) s =
-    drop-cons s (at + d) pastEnd (by-end s (at + d) (p .value) _ refl (p .last))
+    drop-cons s (at + d) pastEnd (number-within s at d x e)
     ∙ (ap (λ (y : ℕ). y ∷ drop (suc (at + d)) s) (g .is ∙ ap digitOf u) ∙ ap (λ (k : ℕ). digitOf (x % 16) ∷ drop k s) (sym (add-suc at d))) in
     one-spelling s at d (p .before) (p .was)
     ∙ (ap (λ (y : ℕ). putDigits d y (drop (at + d) s)) q ∙ (ap (putDigits d (x / 16)) b ∙ sym (put-more d x (drop (at + suc d) s))))
