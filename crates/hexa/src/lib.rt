@@ -41,7 +41,7 @@ pub fn byte_at(s: &[u8], at: usize, i: usize) -> u8
     s[at + i]
 }
 
-// The number of d digits that stands at a place of s, wherever that place is.
+// The number of d digits that stands at a place of s, wherever that place is. Eight digits are what 32 bits hold.
 pub fn number_at(s: &[u8], at: usize, d: usize) -> Read
     requires { ⌜ d ≤ 8 ⌝ }
     ensures { λ r. ⌜ r ≡ numberAt (now (s .entry)) at d ⌝ }

@@ -46,32 +46,23 @@ number-drop s n at (suc d) =
     let b : getD (drop n s) (at + d) pastEnd ≡ getD s (n + at + d) pastEnd = getD-drop n s (at + d) pastEnd ∙ ap (λ (k : ℕ). getD s k pastEnd) (omega arith) in
     ap (λ (r : Read). andDigit r (valueOf (getD (drop n s) (at + d) pastEnd))) (number-drop s n at d) ∙ ap (λ (x : ℕ). andDigit (numberAt s (n + at) d) (valueOf x)) b
 
--- a number of one digit more, taken apart
-pub record Parts (s : List ℕ) (at d x : ℕ) : Type 0 where
+-- a number of one digit more, taken apart: what was read before it, and the digit
+pub record Parts (r t : Read) (x : ℕ) : Type 0 where
   pub before : ℕ
   pub value : ℕ
-  pub was : numberAt s at d ≡ Number before
-  pub last : valueOf (getD s (at + d) pastEnd) ≡ Number value
+  pub was : r ≡ Number before
+  pub last : t ≡ Number value
   pub sum : x ≡ before * 16 + value
 
-record Both (r t : Read) (x : ℕ) : Type 0 where
-  m : ℕ
-  v : ℕ
-  left : r ≡ Number m
-  right : t ≡ Number v
-  all : x ≡ m * 16 + v
-
-both : (r t : Read) (x : ℕ) → andDigit r t ≡ Number x → Both r t x
+parts : (r t : Read) (x : ℕ) → andDigit r t ≡ Number x → Parts r t x
 unfolding andDigit
-both (Number m) (Number v) x e = record { m = m; v = v; left = refl; right = refl; all = cc }
-both (Number m) Bad x e = bad-number x e
-both Bad t x e = bad-number x e
+parts (Number m) (Number v) x e = record { before = m; value = v; was = refl; last = refl; sum = cc }
+parts (Number m) Bad x e = bad-number x e
+parts Bad t x e = bad-number x e
 
-pub number-parts : (s : List ℕ) (at d x : ℕ) → numberAt s at (suc d) ≡ Number x → Parts s at d x
+pub number-parts : (s : List ℕ) (at d x : ℕ) → numberAt s at (suc d) ≡ Number x → Parts (numberAt s at d) (valueOf (getD s (at + d) pastEnd)) x
 unfolding numberAt
-number-parts s at d x e =
-    let p : Both (numberAt s at d) (valueOf (getD s (at + d) pastEnd)) x = both _ _ x e in
-    record { before = p .m; value = p .v; was = p .left; last = p .right; sum = p .all }
+number-parts s at d x e = parts _ _ x e
 
 -- past the end stands no digit, so a number that was read lies within the line, and one that would not is none
 by-end : (s : List ℕ) (i v : ℕ) (t : Bool) → ltb i (length s) ≡ t → valueOf (getD s i pastEnd) ≡ Number v → i < length s
@@ -81,8 +72,7 @@ by-end s i v false e f = bad-number v (rw (List·getD-eq-default s pastEnd (ltb-
 
 pub number-within : (s : List ℕ) (at d x : ℕ) → numberAt s at (suc d) ≡ Number x → at + d < length s
 number-within s at d x e =
-    let p : Parts s at d x = number-parts s at d x e in
-    by-end s (at + d) (p .value) _ refl (p .last)
+    by-end s (at + d) _ _ refl (number-parts s at d x e .last)
 
 by-answer : (s : List ℕ) (at d : ℕ) (r : Read) → numberAt s at (suc d) ≡ r → length s ≤ at + d → r ≡ Bad
 by-answer s at d (Number x) e h = absurd (omega (arith, number-within s at d x e))
@@ -105,5 +95,5 @@ pub number-below : (s : List ℕ) (at d x : ℕ) → numberAt s at d ≡ Number 
 unfolding numberAt
 number-below s at zero x e = let z : 0 ≡ x = cc in omega arith
 number-below s at (suc d) x e =
-    let p : Parts s at d x = number-parts s at d x e in
+    let p : Parts (numberAt s at d) (valueOf (getD s (at + d) pastEnd)) x = number-parts s at d x e in
     rw (p .sum) (below-more d (p .before) (p .value) (number-below s at d (p .before) (p .was)) (digit-of-value _ _ (p .last) .small))

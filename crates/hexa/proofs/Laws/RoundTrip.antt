@@ -54,10 +54,9 @@ writes-reads l at d x h k =
 
 -- what a number that was read says of the line: its d bytes, before what stands behind them, are the spelling
 pub one-spelling : (s : List ℕ) (at d x : ℕ) → numberAt s at d ≡ Number x → drop at s ≡ putDigits d x (drop (at + d) s)
-unfolding numberAt
 one-spelling s at zero x e = ap (λ (k : ℕ). drop k s) (sym (add-zero at)) ∙ sym (put-none x (drop (at + 0) s))
 one-spelling s at (suc d) x e =
-    let p : Parts s at d x = number-parts s at d x e in
+    let p : Parts (numberAt s at d) (valueOf (getD s (at + d) pastEnd)) x = number-parts s at d x e in
     let g : Digit (getD s (at + d) pastEnd) (p .value) = digit-of-value _ _ (p .last) in
     let q : p .before ≡ x / 16 = omega (arith, g .small, p .sum) in
     let u : p .value ≡ x % 16 = omega (arith, g .small, p .sum) in
@@ -67,11 +66,11 @@ one-spelling s at (suc d) x e =
     one-spelling s at d (p .before) (p .was)
     ∙ (ap (λ (y : ℕ). putDigits d y (drop (at + d) s)) q ∙ (ap (putDigits d (x / 16)) b ∙ sym (put-more d x (drop (at + suc d) s))))
 
--- so two texts of d digits that read as one number are equal
-alone : (s : List ℕ) (d x : ℕ) → length s ≡ d → numberAt s 0 d ≡ Number x → s ≡ spelling d x
-alone s d x h e =
+-- so a text of d digits is the spelling of its number, and two that read as one number are equal
+pub text-spelt : (s : List ℕ) (d x : ℕ) → length s ≡ d → numberAt s 0 d ≡ Number x → s ≡ spelling d x
+text-spelt s d x h e =
     let n : 0 + d ≡ length s = omega arith in
     one-spelling s 0 d x e ∙ ap (putDigits d x) (ap (λ (k : ℕ). drop k s) n ∙ drop-length s)
 
 pub one-text : (s t : List ℕ) (d x : ℕ) → length s ≡ d → length t ≡ d → numberAt s 0 d ≡ Number x → numberAt t 0 d ≡ Number x → s ≡ t
-one-text s t d x h k e f = alone s d x h e ∙ sym (alone t d x k f)
+one-text s t d x h k e f = text-spelt s d x h e ∙ sym (text-spelt t d x k f)

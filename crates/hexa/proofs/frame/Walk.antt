@@ -1,6 +1,6 @@
 -- What the walks over a `Frame` share.
 --     B, D, L        the struct's type over the one lifetime of a signature; the same as a declared type, and its laws
---     Own, Line      what a frame owns, and what its line owns
+--     Own, Slice, Token      what a frame owns, what a slice owns, and a share of the lifetime's token
 --     typed          a frame's machine value is typed
 --     twice          a frame is Copy: what it owns is had twice
 --     line-out       what its line owns is had beside what it owns
@@ -71,11 +71,14 @@ L κ = T′.the-laws (namedLft 1 0 tt (κ, tt))
 abbrev pub Own : Lft → Frame → Fml
 Own κ f = B (κ, tt) .own f (T′.lowered f ∷ [])
 
-abbrev pub lineVal : Frame → Val
-lineVal f = sliceVal (f .line .ptr) (length (f .line .now))
+abbrev pub sliceOf : RefT (List ℕ) → Val
+sliceOf s = sliceVal (s .ptr) (length (s .now))
 
-abbrev pub Line : Lft → Frame → Fml
-Line κ f = ShrSlice (named 0) κ u8 .own (f .line) (lineVal f ∷ [])
+abbrev pub Slice : Lft → RefT (List ℕ) → Fml
+Slice κ s = ShrSlice (named 0) κ u8 .own s (sliceOf s ∷ [])
+
+abbrev pub Token : {M : Type 1} (𝓤 : URA M) → Lft → Share → Item 𝓤
+Token 𝓤 κ q = ‵ (flft κ q) ⊛ ‵ ftrue
 
 module _ {M : Type 1} (𝓤 : URA M) (H : Heap 𝓤) (A : Atoms 𝓤) (W : Given 𝓤 H A) (κ : Lft) (f : Frame) where
   pub typed : Is (B (κ, tt)) f (T′.lowered f ∷ []) → Holds (hasTy (T′.mir (named 0)) (T′.lowered f)) × WT (T′.lowered f)
@@ -87,7 +90,7 @@ module _ {M : Type 1} (𝓤 : URA M) (H : Heap 𝓤) (A : Atoms 𝓤) (W : Given
   abbrev fields : Values (D κ .parts)
   fields = (f .line, (f .at, tt))
 
-  pub line-out : ent 𝓤 (sem 𝓤 H A (Own κ f)) (sep 𝓤 (sem 𝓤 H A (Line κ f)) (sem 𝓤 H A (Own κ f)))
+  pub line-out : ent 𝓤 (sem 𝓤 H A (Own κ f)) (sep 𝓤 (sem 𝓤 H A (Slice κ (f .line))) (sem 𝓤 H A (Own κ f)))
   line-out =
       qed W (‵ (Own κ f) ∷ []) ∵ use1 W (‵ (Own κ f) ⊛ ‵ (Own κ f)) twice $ split ! $
       use1 W (given (T′.lowered f ∷ [] ≡ T′.lowered f ∷ []) (‵ (all-own (D κ .parts) (L κ) fields))) (own-open 𝓤 H A W (D κ) (L κ) fields (T′.lowered f)) $
@@ -97,35 +100,29 @@ module _ {M : Type 1} {𝓤 : URA M} {H : Heap 𝓤} {A : Atoms 𝓤} {K : Type 
   pub number : K → (n : ℕ) → n < 2 ^ 64 → Step K W (‵ (usize .own n (vint w64 n ∷ [])) ∷ Γ) G Γ G
   number t n fits = owned t usize (Is usize) (uint-makes 𝓤 H A W w64) n _ (refl, fits)
 
--- what a callee asks that takes a slice, and one that takes a frame and a number and requires φ, from what is had before the call
+-- what a callee asks, from what is had before the call: of one that takes a slice, which is kept too, of one that takes a frame, and of one that takes a frame and a number and requires φ
 module _ {M : Type 1} (𝓤 : URA M) (H : Heap 𝓤) (A : Atoms 𝓤) (W : Given 𝓤 H A) (κ : Lft) (q : Share) where
-  abbrev pub Token : Item 𝓤
-  Token = ‵ (flft κ q) ⊛ ‵ ftrue
-
-  abbrev pub Slice : RefT (List ℕ) → Fml
-  Slice s = ShrSlice (named 0) κ u8 .own s (sliceVal (s .ptr) (length (s .now)) ∷ [])
-
-  pub lends : (s : RefT (List ℕ)) → ent 𝓤 (⋆ 𝓤 H A (‵ (Slice s) ∷ Token ∷ [])) (sep 𝓤 (sep 𝓤 (sep 𝓤 (mean 𝓤 H A Token) (sem 𝓤 H A (fsep (Slice s) ftrue))) (emp 𝓤)) (sem 𝓤 H A (Slice s)))
+  pub lends : (s : RefT (List ℕ)) → ent 𝓤 (⋆ 𝓤 H A (‵ (Slice κ s) ∷ Token 𝓤 κ q ∷ [])) (sep 𝓤 (sep 𝓤 (sep 𝓤 (mean 𝓤 H A (Token 𝓤 κ q)) (sem 𝓤 H A (fsep (Slice κ s) ftrue))) (emp 𝓤)) (sem 𝓤 H A (Slice κ s)))
   lends s =
-      qed W (‵ (Slice s) ∷ Token ∷ []) ∵ use1 W (‵ (Slice s) ⊛ ‵ (Slice s)) (shr-slice-copy 𝓤 H A W (named 0) κ u8 .twice s _) $ split ! $
+      qed W (‵ (Slice κ s) ∷ Token 𝓤 κ q ∷ []) ∵ use1 W (‵ (Slice κ s) ⊛ ‵ (Slice κ s)) (shr-slice-copy 𝓤 H A W (named 0) κ u8 .twice s _) $ split ! $
       nothing ! $ move ! (1 ∷ 0 ∷ []) $ fjoin ! $ move ! (2 ∷ 0 ∷ []) $ join ! $ nothing ! $ move ! (1 ∷ 0 ∷ []) $ join ! $ frame ! $ done !
 
-  pub passes : (f : Frame) (u : Val) (n : ℕ) → n < 2 ^ 64 → (φ : Type 0) → φ
-      → ent 𝓤 (⋆ 𝓤 H A (‵ (B (κ, tt) .own f (u ∷ [])) ∷ Token ∷ [])) (sep 𝓤 (sep 𝓤 (mean 𝓤 H A Token) (sem 𝓤 H A (owns (B (κ, tt) ∷ usize ∷ []) (f, (n, tt)) (u ∷ [], (vint w64 n ∷ [], tt))))) (fact 𝓤 φ))
-  passes f u n fits φ x =
-      qed W (‵ (B (κ, tt) .own f (u ∷ [])) ∷ Token ∷ []) ∵ says ! x $ nothing ! $ number ! n fits $ fjoin ! $ move ! (1 ∷ 0 ∷ []) $ fjoin ! $ move ! (1 ∷ 0 ∷ []) $ join ! $ done !
+  module _ (f : Frame) (u : Val) where
+    pub hands : ent 𝓤 (⋆ 𝓤 H A (‵ (B (κ, tt) .own f (u ∷ [])) ∷ Token 𝓤 κ q ∷ [])) (sep 𝓤 (sep 𝓤 (mean 𝓤 H A (Token 𝓤 κ q)) (sem 𝓤 H A (owns (B (κ, tt) ∷ []) (f, tt) (u ∷ [], tt)))) (emp 𝓤))
+    hands = qed W (‵ (B (κ, tt) .own f (u ∷ [])) ∷ Token 𝓤 κ q ∷ []) ∵ nothing ! $ move ! (1 ∷ 0 ∷ []) $ fjoin ! $ move ! (1 ∷ 0 ∷ []) $ join ! $ frame ! $ done !
 
-  pub hands : (f : Frame) (u : Val) → ent 𝓤 (⋆ 𝓤 H A (‵ (B (κ, tt) .own f (u ∷ [])) ∷ Token ∷ [])) (sep 𝓤 (sep 𝓤 (mean 𝓤 H A Token) (sem 𝓤 H A (owns (B (κ, tt) ∷ []) (f, tt) (u ∷ [], tt)))) (emp 𝓤))
-  hands f u = qed W (‵ (B (κ, tt) .own f (u ∷ [])) ∷ Token ∷ []) ∵ nothing ! $ move ! (1 ∷ 0 ∷ []) $ fjoin ! $ move ! (1 ∷ 0 ∷ []) $ join ! $ frame ! $ done !
+    pub passes : (n : ℕ) → n < 2 ^ 64 → (φ : Type 0) → φ
+        → ent 𝓤 (⋆ 𝓤 H A (‵ (B (κ, tt) .own f (u ∷ [])) ∷ Token 𝓤 κ q ∷ [])) (sep 𝓤 (sep 𝓤 (mean 𝓤 H A (Token 𝓤 κ q)) (sem 𝓤 H A (owns (B (κ, tt) ∷ usize ∷ []) (f, (n, tt)) (u ∷ [], (vint w64 n ∷ [], tt))))) (fact 𝓤 φ))
+    passes n fits φ x = qed W (‵ (B (κ, tt) .own f (u ∷ [])) ∷ Token 𝓤 κ q ∷ []) ∵ says ! x $ nothing ! $ number ! n fits $ fjoin ! $ move ! (1 ∷ 0 ∷ []) $ fjoin ! $ move ! (1 ∷ 0 ∷ []) $ join ! $ done !
 
 -- what a call gives back, of a callee with the signature E and the arguments a that has no `&mut`
 module _ {M : Type 1} (𝓤 : URA M) (H : Heap 𝓤) (A : Atoms 𝓤) (E : Ended) (κs : Lfts (E .signature .lifetimes)) (a : Args (E .signature) κs) (R : RattleType) (φ : R .Denot → Type 0) (κ : Lft) (q : Share) (u : Val) where
   abbrev pub Back : Item 𝓤
-  Back = later (some (λ (r : R .Denot). ((‵ (flft κ q) ⊛ ‵ ftrue) ⊛ ‵ (R .own r (u ∷ []))) ⊛ raw (ex 𝓤 (λ (ws : Lasts E κs a). sep 𝓤 (sem 𝓤 H A (lasts E κs a ws)) (fact 𝓤 (φ r))))))
+  Back = later (some (λ (r : R .Denot). (Token 𝓤 κ q ⊛ ‵ (R .own r (u ∷ []))) ⊛ raw (ex 𝓤 (λ (ws : Lasts E κs a). sep 𝓤 (sem 𝓤 H A (lasts E κs a ws)) (fact 𝓤 (φ r))))))
 
 module _ {M : Type 1} {𝓤 : URA M} {H : Heap 𝓤} {A : Atoms 𝓤} {K : Type 0} (W : Given 𝓤 H A) {Γ : List (Item 𝓤)} {G : Goal 𝓤 H} where
   pub answers : (E : Ended) (κs : Lfts (E .signature .lifetimes)) (a : Args (E .signature) κs) (R : RattleType) (φ : R .Denot → Type 0) (κ : Lft) (q : Share) (u : Val)
-      → K → Soaks G → ((r : R .Denot) → φ r → Is R r (u ∷ []) → Seq K W (‵ (R .own r (u ∷ [])) ∷ (‵ (flft κ q) ⊛ ‵ ftrue) ∷ Γ) G)
+      → K → Soaks G → ((r : R .Denot) → φ r → Is R r (u ∷ []) → Seq K W (‵ (R .own r (u ∷ [])) ∷ Token 𝓤 κ q ∷ Γ) G)
       → Seq K W (raw (mean 𝓤 H A (Back 𝓤 H A E κs a R φ κ q u)) ∷ Γ) G
   answers E κs a R φ κ q u t z k =
       use1 W (Back 𝓤 H A E κs a R φ κ q u) (id⊢ 𝓤 _) $ await t z $ pick t (λ r. split t $ move t (1 ∷ []) $

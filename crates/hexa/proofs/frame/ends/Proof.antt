@@ -24,7 +24,7 @@ use denote.Plain.{uint-vals, uint-tells, bool-lawful}
 use denote.Builtin.{u8, usize, bool}
 use denote.Ref.{RefT, NamedLft, now}
 use denote.Signature.{plain}
-use denote.Slice.{sliceVal, ShrSlice, slice-vals, shr-slice-tells, shr-slice-lawful}
+use denote.Slice.{ShrSlice, slice-vals, shr-slice-tells, shr-slice-lawful}
 use denote.Steps.{nothing}
 use denote.Struct.Laws as LL
 use denote.Triple.Statement.{Contract, Triple}
@@ -52,7 +52,7 @@ use Rattle.hexa.proofs.frame.ended as ended
 use Rattle.hexa.proofs.frame.ended.Symbol as ended-def
 use Rattle.hexa.proofs.frame.ended.Symbol.{name as #ended}
 use Rattle.hexa.proofs.frame.ended.Met as ended-thm
-use Rattle.hexa.proofs.frame.Walk.{B, Token, Slice, from-start, at-place, number, lends, hands, passes, answers, framed, closes}
+use Rattle.hexa.proofs.frame.Walk.{sliceOf, Slice, Token, number, B, from-start, at-place, lends, hands, passes, answers, framed, closes}
 use Rattle.hexa.proofs.frame.ends.Key.{name as #ends}
 use Rattle.hexa.proofs.frame.ends as ends
 use Rattle.hexa.proofs.frame.ends.Statement as stated
@@ -73,9 +73,8 @@ module _ {M : Type 1} (𝓤 : URA M) (H : Heap 𝓤) (A : Atoms 𝓤) (mem : Mem
   Ended = tripleOf 𝓤 H A ended.signature (ended.spec 𝓤 H A mem run)
 
 module _ {M : Type 1} (𝓤 : URA M) (H : Heap 𝓤) (A : Atoms 𝓤) (W : Given 𝓤 H A) (mem : Memory → SProp 𝓤) (run : Routine → Fun 𝓤) (κ : Lft) (q : Share) (s : RefT (List ℕ)) (n : ℕ) (n-fits : n < 2 ^ 64) where
-  -- the machine value that s has
   abbrev v : Val
-  v = sliceVal (s .ptr) (length (s .now))
+  v = sliceOf s
 
   abbrev passed : Vals ends.signature (κ, tt)
   passed = (v ∷ [], (vint w64 n ∷ [], tt))
@@ -100,19 +99,19 @@ module _ {M : Type 1} (𝓤 : URA M) (H : Heap 𝓤) (A : Atoms 𝓤) (W : Given
   abbrev to-ended : Frame → Val → Ended 𝓤 H A mem run .Ghost
   to-ended f u = (((κ, tt), (q, tt), tt, (f, tt), (u ∷ [], tt)), tt)
 
-  exits : (r : Bool) (u : Val) → r ≡ found → ent 𝓤 (⋆ 𝓤 H A (‵ (bool .own r (u ∷ [])) ∷ Token 𝓤 H A W κ q ∷ ‵ (Slice 𝓤 H A W κ q s) ∷ [])) (Post u)
+  exits : (r : Bool) (u : Val) → r ≡ found → ent 𝓤 (⋆ 𝓤 H A (‵ (bool .own r (u ∷ [])) ∷ Token 𝓤 κ q ∷ ‵ (Slice κ s) ∷ [])) (Post u)
   exits r u e =
-      qed W (‵ (bool .own r (u ∷ [])) ∷ Token 𝓤 H A W κ q ∷ ‵ (Slice 𝓤 H A W κ q s) ∷ []) ∵
+      qed W (‵ (bool .own r (u ∷ [])) ∷ Token 𝓤 κ q ∷ ‵ (Slice κ s) ∷ []) ∵
       suffices ! _ (ends-at 𝓤 H A ends.ended stayed (ends.clauses 𝓤 H A mem run) W (((κ, tt), (q, tt), tt, (s, (n, tt)), passed), tt) u r (tt, (tt, tt)) (tt, (tt, tt))) $ says ! e $
       move ! (1 ∷ []) $ frame ! $ nothing ! $ number ! n n-fits $ fjoin ! $ move ! (2 ∷ 0 ∷ []) $ fjoin ! $ frame ! $ done !
 
   module _ (C : Calls 𝓤 H) (Λ : Loops 𝓤 H) (fm : FmC 𝓤 H (W .laws) C) (known-new : Triple 𝓤 (C #new) (New 𝓤 H A mem run)) (known-advanced : Triple 𝓤 (C #advanced) (Advanced 𝓤 H A mem run)) (known-ended : Triple 𝓤 (C #ended) (Ended 𝓤 H A mem run)) where
     walk : Is (ShrSlice (named 0) κ u8) s (v ∷ []) → ent 𝓤 (onEntry 𝓤 H A ends.signature (κ, tt) (q, tt) (s, (n, tt)) passed) (WpFn 𝓤 H C Λ code.function (v ∷ vint w64 n ∷ []) Post)
     walk p =
-        qed W (Token 𝓤 H A W κ q ∷ ‵ (owns (ShrSlice (named 0) κ u8 ∷ usize ∷ []) (s, (n, tt)) passed) ∷ []) ∵ enter ! C Λ code.function (v ∷ vint w64 n ∷ []) _ $
+        qed W (Token 𝓤 κ q ∷ ‵ (owns (ShrSlice (named 0) κ u8 ∷ usize ∷ []) (s, (n, tt)) passed) ∷ []) ∵ enter ! C Λ code.function (v ∷ vint w64 n ∷ []) _ $
         alloc1 ! (λ l₀. alloc1 ! (λ l₁. alloc1 ! (λ l₂. alloc1 ! (λ l₃. alloc1 ! (λ l₄. alloc0 ! $ params1 ! $ pass1 ! (init ! 6 refl (shr-slice-lawful 𝓤 H A W (named 0) κ u8 .typed s (v ∷ []) p .0)) $ pass1 ! (init ! 4 refl (tt, record { fits = n-fits })) $ pass0 ! $
         -- [room for _4; room for _3; n; the slice; the result; the token; what is owned on entry]
-        move ! (11 ∷ []) $ fsplit ! $ move ! (1 ∷ []) $ drop ! $ move ! (0 ∷ 11 ∷ []) $ use2 W (raw (New 𝓤 H A mem run .pre to-new) ⊛ ‵ (Slice 𝓤 H A W κ q s)) (lends 𝓤 H A W κ q s) $ split ! $
+        move ! (11 ∷ []) $ fsplit ! $ move ! (1 ∷ []) $ drop ! $ move ! (0 ∷ 11 ∷ []) $ use2 W (raw (New 𝓤 H A mem run .pre to-new) ⊛ ‵ (Slice κ s)) (lends 𝓤 H A W κ q s) $ split ! $
         calls-at ! fm (New 𝓤 H A mem run) known-new to-new (and-then ! (load ! (from ! (stop !)) (look ! 8 refl)) (no-more !)) (λ u.
         answers W new.ended (κ, tt) (s, tt) (B (κ, tt)) (λ f. (f .line ≡ s) × (f .at ≡ 0)) κ q u ! tt (λ f e is.
         -- [what the frame owns; the token; what the slice owns; room for _4; room for _3; n; the slice; the result]

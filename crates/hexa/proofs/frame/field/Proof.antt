@@ -24,7 +24,7 @@ use denote.Plain.{uint-vals, uint-tells}
 use denote.Builtin.{u8, usize}
 use denote.Ref.{RefT, NamedLft, now}
 use denote.Signature.{plain}
-use denote.Slice.{sliceVal, ShrSlice, slice-vals, shr-slice-tells, shr-slice-lawful}
+use denote.Slice.{ShrSlice, slice-vals, shr-slice-tells, shr-slice-lawful}
 use denote.Steps.{nothing}
 use denote.Enum.Laws as EL
 use denote.Struct.Laws as LL
@@ -35,7 +35,6 @@ use denote.Triple.Spec.{tripleOf}
 use denote.Triple.Table.{cited}
 use denote.Triple.Walked.{says, needs, Stays, stay-none, stay-none-slice, walkOf, goes-none, goes-none-slice, ends-at}
 use denote.Exit.{yes}
-use lib.ListN.{length}
 use Rattle.hexa.specs.Digits.{numberAt}
 use Rattle.hexa.specs.declared.frame.Frame.{Frame}
 use Rattle.hexa.specs.declared.Read.{Read}
@@ -55,7 +54,7 @@ use Rattle.hexa.proofs.frame.digits as digits
 use Rattle.hexa.proofs.frame.digits.Symbol as digits-def
 use Rattle.hexa.proofs.frame.digits.Symbol.{name as #digits}
 use Rattle.hexa.proofs.frame.digits.Met as digits-thm
-use Rattle.hexa.proofs.frame.Walk.{B, Token, Slice, from-start, at-place, number, lends, passes, answers, framed, closes}
+use Rattle.hexa.proofs.frame.Walk.{sliceOf, Slice, Token, number, B, from-start, at-place, lends, passes, answers, framed, closes}
 use Rattle.hexa.proofs.frame.field.Key.{name as #field}
 use Rattle.hexa.proofs.frame.field as field
 use Rattle.hexa.proofs.frame.field.Statement as stated
@@ -76,9 +75,8 @@ module _ {M : Type 1} (𝓤 : URA M) (H : Heap 𝓤) (A : Atoms 𝓤) (mem : Mem
   Digits = tripleOf 𝓤 H A digits.signature (digits.spec 𝓤 H A mem run)
 
 module _ {M : Type 1} (𝓤 : URA M) (H : Heap 𝓤) (A : Atoms 𝓤) (W : Given 𝓤 H A) (mem : Memory → SProp 𝓤) (run : Routine → Fun 𝓤) (κ : Lft) (q : Share) (s : RefT (List ℕ)) (n d : ℕ) (n-fits : n < 2 ^ 64) (d-fits : d < 2 ^ 64) (asks : d ≤ 8) where
-  -- the machine value that s has
   abbrev v : Val
-  v = sliceVal (s .ptr) (length (s .now))
+  v = sliceOf s
 
   abbrev passed : Vals field.signature (κ, tt)
   passed = (v ∷ [], (vint w64 n ∷ [], (vint w64 d ∷ [], tt)))
@@ -103,19 +101,19 @@ module _ {M : Type 1} (𝓤 : URA M) (H : Heap 𝓤) (A : Atoms 𝓤) (W : Given
   abbrev to-digits : Frame → Val → Digits 𝓤 H A mem run .Ghost
   to-digits f u = (((κ, tt), (q, tt), tt, (f, (d, tt)), (u ∷ [], (vint w64 d ∷ [], tt))), tt)
 
-  exits : (r : Read) (u : Val) → r ≡ found → ent 𝓤 (⋆ 𝓤 H A (‵ (S.the-row .own r (u ∷ [])) ∷ Token 𝓤 H A W κ q ∷ ‵ (Slice 𝓤 H A W κ q s) ∷ [])) (Post u)
+  exits : (r : Read) (u : Val) → r ≡ found → ent 𝓤 (⋆ 𝓤 H A (‵ (S.the-row .own r (u ∷ [])) ∷ Token 𝓤 κ q ∷ ‵ (Slice κ s) ∷ [])) (Post u)
   exits r u e =
-      qed W (‵ (S.the-row .own r (u ∷ [])) ∷ Token 𝓤 H A W κ q ∷ ‵ (Slice 𝓤 H A W κ q s) ∷ []) ∵
+      qed W (‵ (S.the-row .own r (u ∷ [])) ∷ Token 𝓤 κ q ∷ ‵ (Slice κ s) ∷ []) ∵
       suffices ! _ (ends-at 𝓤 H A field.ended stayed (field.clauses 𝓤 H A mem run) W (((κ, tt), (q, tt), tt, (s, (n, (d, tt))), passed), tt) u r (tt, (tt, (tt, tt))) (tt, (tt, (tt, tt)))) $ says ! e $
       move ! (1 ∷ []) $ frame ! $ nothing ! $ number ! d d-fits $ fjoin ! $ number ! n n-fits $ fjoin ! $ move ! (2 ∷ 0 ∷ []) $ fjoin ! $ frame ! $ done !
 
   module _ (C : Calls 𝓤 H) (Λ : Loops 𝓤 H) (fm : FmC 𝓤 H (W .laws) C) (known-new : Triple 𝓤 (C #new) (New 𝓤 H A mem run)) (known-advanced : Triple 𝓤 (C #advanced) (Advanced 𝓤 H A mem run)) (known-digits : Triple 𝓤 (C #digits) (Digits 𝓤 H A mem run)) where
     walk : Is (ShrSlice (named 0) κ u8) s (v ∷ []) → ent 𝓤 (onEntry 𝓤 H A field.signature (κ, tt) (q, tt) (s, (n, (d, tt))) passed) (WpFn 𝓤 H C Λ code.function (v ∷ vint w64 n ∷ vint w64 d ∷ []) Post)
     walk p =
-        qed W (Token 𝓤 H A W κ q ∷ ‵ (owns (ShrSlice (named 0) κ u8 ∷ usize ∷ usize ∷ []) (s, (n, (d, tt))) passed) ∷ []) ∵ enter ! C Λ code.function (v ∷ vint w64 n ∷ vint w64 d ∷ []) _ $
+        qed W (Token 𝓤 κ q ∷ ‵ (owns (ShrSlice (named 0) κ u8 ∷ usize ∷ usize ∷ []) (s, (n, (d, tt))) passed) ∷ []) ∵ enter ! C Λ code.function (v ∷ vint w64 n ∷ vint w64 d ∷ []) _ $
         alloc1 ! (λ l₀. alloc1 ! (λ l₁. alloc1 ! (λ l₂. alloc1 ! (λ l₃. alloc1 ! (λ l₄. alloc1 ! (λ l₅. alloc0 ! $ params1 ! $ pass1 ! (init ! 8 refl (shr-slice-lawful 𝓤 H A W (named 0) κ u8 .typed s (v ∷ []) p .0)) $ pass1 ! (init ! 6 refl (tt, record { fits = n-fits })) $ pass1 ! (init ! 4 refl (tt, record { fits = d-fits })) $ pass0 ! $
         -- [room for _5; room for _4; d; n; the slice; the result; the token; what is owned on entry]
-        move ! (13 ∷ []) $ fsplit ! $ move ! (1 ∷ []) $ drop ! $ move ! (0 ∷ 13 ∷ []) $ use2 W (raw (New 𝓤 H A mem run .pre to-new) ⊛ ‵ (Slice 𝓤 H A W κ q s)) (lends 𝓤 H A W κ q s) $ split ! $
+        move ! (13 ∷ []) $ fsplit ! $ move ! (1 ∷ []) $ drop ! $ move ! (0 ∷ 13 ∷ []) $ use2 W (raw (New 𝓤 H A mem run .pre to-new) ⊛ ‵ (Slice κ s)) (lends 𝓤 H A W κ q s) $ split ! $
         calls-at ! fm (New 𝓤 H A mem run) known-new to-new (and-then ! (load ! (from ! (stop !)) (look ! 10 refl)) (no-more !)) (λ u.
         answers W new.ended (κ, tt) (s, tt) (B (κ, tt)) (λ f. (f .line ≡ s) × (f .at ≡ 0)) κ q u ! tt (λ f e is.
         -- [what the frame owns; the token; what the slice owns; room for _5; room for _4; d; n; the slice; the result]
