@@ -24,8 +24,11 @@ module _ (c : tie.After-known-told Inv-loop μ-loop) where
   value : valueOf (getD (c .before .before .before .before .before .before .before .before .args .s .now) (c .before .before .before .before .before .before .before .before .args .at + c .before .before .before .before .before .before .loop .i) pastEnd) ≡ Number (c .before .v .given .0 .0)
   value = sym (ap valueOf (c .before .before .before .before .byte-at .ensures)) ∙ (sym (c .before .before .before .digit-value .ensures) ∙ c .before .v .given .1)
 
+  small : c .before .v .given .0 .0 < 16
+  small = digit-of-value _ _ value .small
+
   more : c .before .before .before .before .before .before .loop .x * 16 + c .before .v .given .0 .0 < 16 ^ suc (c .before .before .before .before .before .before .loop .i)
-  more = below-more (c .before .before .before .before .before .before .loop .i) _ _ (c .before .before .before .before .before .before .loop .inv .2) (digit-of-value _ _ value .small)
+  more = below-more (c .before .before .before .before .before .before .loop .i) _ _ (c .before .before .before .before .before .before .loop .inv .2) small
 
   fits : c .before .before .before .before .before .before .loop .x * 16 + c .before .v .given .0 .0 < 16 ^ 8
   fits = below-wider _ 8 _ (omega arith) more
@@ -51,10 +54,10 @@ returns c =
     (sym (ap valueOf (c .before .before .before .byte-at .ensures)) ∙ (sym (c .before .before .digit-value .ensures) ∙ c .enum-told .given .1)))
 
 mul-x : tie.Need-mul-x Inv-loop μ-loop
-mul-x c = record { fits = omega (arith, fits c) }
+mul-x c = record { fits = omega (arith, fits c, small c) }
 
 add-x : tie.Need-add-x Inv-loop μ-loop
-add-x c = record { fits = fits c }
+add-x c = record { fits = omega (arith, fits c, small c) }
 
 add-i : tie.Need-add-i Inv-loop μ-loop
 add-i c = omega arith
