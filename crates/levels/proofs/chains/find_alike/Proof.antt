@@ -1,0 +1,127 @@
+use Prim.Native.Nat.{ℕ, _*_, _-_, _<_}
+use native.Mathlib.Omega.{arith}
+use lib.ListN.{getD}
+use Rattle.rules.proofs.Laws.Places.{some-items, row-lt, column-lt}
+use Rattle.levels.proofs.Laws.Walk.{Ahead, walk-start, walk-met, walk-less, walk-next, walk-found, walk-none}
+use Rattle.levels.proofs.chains.find_alike.Statement.{statement}
+use Rattle.levels.proofs.chains.find_alike.Tie as tie
+
+abbrev Inv-loop : tie.InvT-loop
+Inv-loop n i levels area p b at₀ at = Ahead n i levels area p b at
+
+abbrev μ-loop : tie.MeasureT-loop
+μ-loop n i levels area p b at₀ at = at
+
+mul-word-at : tie.Need-mul-word-at Inv-loop μ-loop
+mul-word-at c = omega arith
+
+mul-word-at-2 : tie.Need-mul-word-at-2 Inv-loop μ-loop
+mul-word-at-2 c = omega arith
+
+mul-word-at-3 : tie.Need-mul-word-at-3 Inv-loop μ-loop
+mul-word-at-3 c = omega arith
+
+add-word-at : tie.Need-add-word-at Inv-loop μ-loop
+add-word-at c = omega arith
+
+word-at-requires : tie.Need-word-at-requires Inv-loop μ-loop
+word-at-requires c κs = omega arith
+
+loop-holds : tie.Need-loop-holds Inv-loop μ-loop
+loop-holds c = let a = c .before .before .before in walk-start _ _ _ _ _ _ (a .pre .4) (a .pre .3) (c .word-at .ensures .0)
+
+sub-q : tie.Need-sub-q Inv-loop μ-loop
+sub-q c = omega (arith, c .loop-test .taken)
+
+div-agree : tie.Need-div-agree Inv-loop μ-loop
+div-agree c = some-items _ _ (c .before .before .before .before .before .pre .1)
+
+rem-agree : tie.Need-rem-agree Inv-loop μ-loop
+rem-agree c = some-items _ _ (c .before .before .before .before .before .pre .1)
+
+div-agree-2 : tie.Need-div-agree-2 Inv-loop μ-loop
+div-agree-2 c = some-items _ _ (c .before .before .before .before .before .pre .1)
+
+rem-agree-2 : tie.Need-rem-agree-2 Inv-loop μ-loop
+rem-agree-2 c = some-items _ _ (c .before .before .before .before .before .pre .1)
+
+agree-requires : tie.Need-agree-requires Inv-loop μ-loop
+agree-requires c κs =
+    let a = c .before .before .before .before .before in
+    let m = walk-met _ _ _ _ _ _ _ (c .loop-test .taken) (c .before .loop .inv) in
+    let h : c .before .loop .at - 1 < a .args .n * a .args .n = omega (arith, m .before) in
+    let q1 = row-lt _ _ h in
+    let q2 = column-lt _ _ h in
+    let p1 = row-lt _ _ (a .pre .1) in
+    let p2 = column-lt _ _ (a .pre .1) in (
+      record { some = a .pre .0 .some; room = a .pre .0 .room },
+      record { room = omega arith },
+      record { first = omega arith; second = omega arith },
+      record { first = omega arith; second = omega arith },
+    )
+
+returns : tie.Need-returns Inv-loop μ-loop
+returns c =
+    let t = c .before .before in
+    walk-found _ _ _ _ _ _ _ (t .loop-test .taken) (t .before .loop .inv) (c .before .agree .ensures) (c .if1 .taken)
+
+mul-word-at-4 : tie.Need-mul-word-at-4 Inv-loop μ-loop
+mul-word-at-4 c = omega arith
+
+mul-word-at-5 : tie.Need-mul-word-at-5 Inv-loop μ-loop
+mul-word-at-5 c = omega arith
+
+mul-word-at-6 : tie.Need-mul-word-at-6 Inv-loop μ-loop
+mul-word-at-6 c = let t = c .before .before in omega (arith, walk-met _ _ _ _ _ _ _ (t .loop-test .taken) (t .before .loop .inv) .before)
+
+add-word-at-2 : tie.Need-add-word-at-2 Inv-loop μ-loop
+add-word-at-2 c = let t = c .before .before in omega (arith, walk-met _ _ _ _ _ _ _ (t .loop-test .taken) (t .before .loop .inv) .before)
+
+word-at-requires-2 : tie.Need-word-at-requires-2 Inv-loop μ-loop
+word-at-requires-2 c κs = let t = c .before .before in omega (arith, walk-met _ _ _ _ _ _ _ (t .loop-test .taken) (t .before .loop .inv) .before)
+
+loop-less : tie.Need-loop-less Inv-loop μ-loop
+loop-less c =
+    let t = c .before .before .before in
+    walk-less _ _ _ _ _ _ _ (t .loop-test .taken) (t .before .loop .inv) (c .word-at2 .ensures .0)
+
+loop-again : tie.Need-loop-again Inv-loop μ-loop
+loop-again c =
+    let t = c .before .before .before in
+    walk-next _ _ _ _ _ _ _ (t .loop-test .taken) (t .before .loop .inv) (c .before .before .agree .ensures) (c .before .if1 .left) (c .word-at2 .ensures .0)
+
+returns-2 : tie.Need-returns-2 Inv-loop μ-loop
+returns-2 c =
+    let l = c .before in
+    let s = l .before .before in
+    let a = s .before .before in
+    let bytes : (q : ℕ) → getD (a .args .area .now) q 0 < 256 = λ q. omega (arith, s .shared-slice-known2 .given q) in
+    walk-none _ _ _ _ _ _ (a .pre .4) (a .pre .1) (a .pre .2) bytes (l .loop .inv) (c .loop-test .left)
+
+pub find-alike-spec : {M : Type 1} → statement M
+find-alike-spec =
+    tie.close
+    (tie.spec
+    Inv-loop
+    μ-loop
+    mul-word-at
+    mul-word-at-2
+    mul-word-at-3
+    add-word-at
+    word-at-requires
+    loop-holds
+    sub-q
+    div-agree
+    rem-agree
+    div-agree-2
+    rem-agree-2
+    agree-requires
+    returns
+    mul-word-at-4
+    mul-word-at-5
+    mul-word-at-6
+    add-word-at-2
+    word-at-requires-2
+    loop-less
+    loop-again
+    returns-2)

@@ -1,0 +1,39 @@
+use native.Mathlib.Omega.{arith}
+use Rattle.levels.proofs.Laws.Signature.{most-none, most-some}
+use borrow.Author.Needs.{needs}
+use Rattle.levels.proofs.chains.most_at.Statement.{statement}
+use Rattle.levels.proofs.chains.most_at.Tie as tie
+
+splits-requires : tie.Need-splits-requires
+splits-requires c κs = search needs
+
+returns : tie.Need-returns
+returns c = (most-none _ _ _ _ (c .before .splits .ensures) (c .if1 .taken), omega arith)
+
+split-most-requires : tie.Need-split-most-requires
+split-most-requires c κs = search needs
+
+split-most-requires-2 : tie.Need-split-most-requires-2
+split-most-requires-2 c κs = search needs
+
+add-result : tie.Need-add-result
+add-result c = search needs
+
+returns-2 : tie.Need-returns-2
+returns-2 c =
+    let s = c .before in
+    let e = s .before in (
+      most-some _ _ _ _ (e .before .splits .ensures) (e .if1 .left) (s .split-most .ensures .0) (c .split-most2 .ensures .0),
+      omega (arith, s .split-most .ensures .1, c .split-most2 .ensures .1),
+    )
+
+pub most-at-spec : {M : Type 1} → statement M
+most-at-spec =
+    tie.close
+    (tie.spec
+    splits-requires
+    returns
+    split-most-requires
+    split-most-requires-2
+    add-result
+    returns-2)

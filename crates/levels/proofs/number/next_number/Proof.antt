@@ -1,0 +1,101 @@
+use Prim.Native.Nat.{ℕ, _<_}
+use native.Mathlib.Omega.{arith}
+use lib.ListN.{getD}
+use Rattle.rules.proofs.Laws.Places.{square-le}
+use Rattle.levels.proofs.Laws.Tables.{base-next}
+use Rattle.levels.proofs.Laws.Reach.{byte-set, byte-clear}
+use Rattle.levels.proofs.Laws.Taken.{taken-out, taken-old, taken-new}
+use borrow.Author.Needs.{needs}
+use Rattle.levels.proofs.number.next_number.Statement.{statement}
+use Rattle.levels.proofs.number.next_number.Tie as tie
+
+mul-if1 : tie.Need-mul-if1
+mul-if1 c = search needs
+
+add-if1 : tie.Need-add-if1
+add-if1 c = search needs
+
+slice-read-if1 : tie.Need-slice-read-if1
+slice-read-if1 c = search needs
+
+returns : tie.Need-returns
+returns c =
+    let a = c .before .before .before .before in
+    taken-out _ _ _ _ _ _ (a .pre .2) (a .pre .3) (a .pre .4) (byte-clear _ (a .pre .1 .byte-at (a .args .p) (a .pre .3)) (c .if1 .taken))
+
+bucket-requires : tie.Need-bucket-requires
+bucket-requires c κs = search needs
+
+find-alike-requires : tie.Need-find-alike-requires
+find-alike-requires c κs = search needs
+
+sub-result : tie.Need-sub-result
+sub-result c = search needs
+
+mul-result : tie.Need-mul-result
+mul-result c = search needs
+
+mul-result-2 : tie.Need-mul-result-2
+mul-result-2 c = let a = c .before .before .before .before .before .before .before .before .before in omega (arith, base-next (a .args .n) (a .args .i) (a .pre .0 .some))
+
+add-result : tie.Need-add-result
+add-result c = let a = c .before .before .before .before .before .before .before .before .before in omega (arith, base-next (a .args .n) (a .args .i) (a .pre .0 .some))
+
+mul-result-3 : tie.Need-mul-result-3
+mul-result-3 c = let a = c .before .before .before .before .before .before .before .before .before in omega (arith, base-next (a .args .n) (a .args .i) (a .pre .0 .some))
+
+shared-slice-read-result : tie.Need-shared-slice-read-result
+shared-slice-read-result c = let a = c .before .before .before .before .before .before .before .before .before .before in omega (arith, base-next (a .args .n) (a .args .i) (a .pre .0 .some))
+
+same-length : tie.Need-same-length
+same-length c = search needs
+
+returns-2 : tie.Need-returns-2
+returns-2 c =
+    let f = c .before .before in
+    let e = f .before .before .before .before in
+    let a = f .before .before .before .before .before .before .before .before in
+    let bytes : (j : ℕ) → getD (a .args .area .now) j 0 < 256 = λ j. omega (arith, f .before .before .before .before .before .before .slice-known .given j) in
+    taken-old _ _ _ _ _ _ (a .pre .2) (a .pre .3) (a .pre .4) (byte-set _ (a .pre .1 .byte-at (a .args .p) (a .pre .3)) (e .if1 .left)) _ (f .find-alike .ensures)
+    bytes (c .before .if2 .taken)
+
+add-head-requires : tie.Need-add-head-requires
+add-head-requires c κs = search needs
+
+add-result-2 : tie.Need-add-result-2
+add-result-2 c = let a = c .before .before .before .before .before .before .before .before .before .before .before .before .before in omega (arith, square-le (a .pre .0 .few), a .pre .2 .small)
+
+same-length-2 : tie.Need-same-length-2
+same-length-2 c = search needs
+
+returns-3 : tie.Need-returns-3
+returns-3 c =
+    let d = c .before .before .before .before in
+    let f = d .before in
+    let e = f .before .before .before .before in
+    let a = f .before .before .before .before .before .before .before .before in
+    taken-new _ _ _ _ _ _ (a .pre .2) (a .pre .3) (a .pre .4) (byte-set _ (a .pre .1 .byte-at (a .args .p) (a .pre .3)) (e .if1 .left)) _ (f .find-alike .ensures)
+    _ _ (a .pre .0 .area-room) (f .before .before .bucket .ensures) (d .if2 .left) (c .before .before .add-head .ensures)
+
+pub next-number-spec : {M : Type 1} → statement M
+next-number-spec =
+    tie.close
+    (tie.spec
+    mul-if1
+    add-if1
+    slice-read-if1
+    returns
+    bucket-requires
+    find-alike-requires
+    sub-result
+    mul-result
+    mul-result-2
+    add-result
+    mul-result-3
+    shared-slice-read-result
+    same-length
+    returns-2
+    add-head-requires
+    add-result-2
+    same-length-2
+    returns-3)

@@ -1,0 +1,72 @@
+// Checking the numbers of a level, whoever wrote them.
+ghost use mathlib.Core.Path.{_≡_};
+ghost use Prim.Native.Nat.{ℕ, _+_, _*_, _-_, _<_, _≤_};
+ghost use lib.ListN.{length};
+ghost use Rattle.rules.specs.Rule.{rule};
+ghost use Rattle.rules.specs.Levels.{levelOf};
+ghost use Rattle.rules.specs.Accept.{levelOk};
+ghost use Rattle.levels.specs.Marks.{markedGraph};
+ghost use Rattle.levels.specs.Needs.{Ready, Near, Seen, Firsts, Noted, Passed, Faulty};
+use super::agree::agree;
+use super::chains::set_word;
+use super::chains::word_at;
+use super::near::mark_near;
+
+// Position p of level i is right, where top is the largest number before it and the first position of each number stands
+// in the area. A new number's first position is p, which agrees with itself.
+fn is_right(n: usize, i: usize, levels: &[u32], area: &[u8], p: usize, top: u32) -> bool
+    requires { ⌜ (Ready n i (now levels) (now area)) × (Near n i (now area)) × (Seen n i (now levels) p top) × (Firsts n i (now levels) (now area) top) ⌝ }
+    ensures { λ r. ⌜ r ≡ levelOk rule (markedGraph n (now (area .entry))) i (levelOf n (now (levels .entry))) p ⌝ }
+{
+    let c = levels[(i - 1) * (n * n) + p];
+    if area[n * n + p] == 0 {
+        return c == 0;
+    }
+    if c == 0 {
+        return false;
+    }
+    if top < c {
+        return c == top + 1;
+    }
+    let q = word_at(area, 2 * (n * n) + 2 * (c as usize - 1));
+    agree(n, i, levels, area, p / n, p % n, q / n, q % n)
+}
+
+// The largest number so far; where c is a new one, p is kept as its first position.
+fn note_first(n: usize, area: &mut [u8], p: usize, c: u32, top: u32) -> u32
+    requires { ⌜ (n ≤ 128) × (9 * (n * n) ≤ length (now area)) × (p < n * n) × (top ≤ p) ⌝ }
+    ensures { λ r. ⌜ Noted n (now (area .entry)) p c top r (now (area .exit)) ⌝ }
+{
+    if c <= top {
+        return top;
+    }
+    set_word(area, 2 * (n * n) + 2 * (top as usize), p);
+    c
+}
+
+// The first faulty position of level i, or n*n, where the bytes of the connected pairs stand.
+fn check_positions(n: usize, i: usize, levels: &[u32], area: &mut [u8]) -> usize
+    requires { ⌜ (Ready n i (now levels) (now area)) × (Near n i (now area)) ⌝ }
+    ensures { λ r. ⌜ Passed n i (now (levels .entry)) (now (area .entry)) r (now (area .exit)) ⌝ }
+{
+    let start = (i - 1) * (n * n);
+    let mut top: u32 = 0;
+    let mut p = 0;
+    while p < n * n {
+        if !is_right(n, i, levels, area, p, top) {
+            return p;
+        }
+        top = note_first(n, area, p, levels[start + p], top);
+        p += 1;
+    }
+    p
+}
+
+// The first faulty position of level i, or n*n, where the levels below are right.
+pub fn check_level(n: usize, i: usize, levels: &[u32], area: &mut [u8]) -> usize
+    requires { ⌜ Ready n i (now levels) (now area) ⌝ }
+    ensures { λ r. ⌜ Faulty n i (now (levels .entry)) (now (area .entry)) r (now (area .exit)) ⌝ }
+{
+    mark_near(n, i, levels, area);
+    check_positions(n, i, levels, area)
+}
