@@ -1,0 +1,4 @@
+pub mod Counting
+pub mod Front
+pub mod Sorting
+pub mod Numbers
