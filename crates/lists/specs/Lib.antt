@@ -1,1 +1,2 @@
 pub mod Sort
+pub mod Relations

@@ -1,3 +1,4 @@
 // What a level-k table gives: the class lists, starts and order, and the entry list. Narrow contracts; the entries of the index do the refusing.
 
 pub mod sort; // starts and order by counting sort
+pub mod relations; // eight relations a block of the working area
