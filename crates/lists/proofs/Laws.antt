@@ -6,3 +6,6 @@ pub mod Bits
 pub mod Areas
 pub mod Blocks
 pub mod Marks
+pub mod Difference
+pub mod Meeting
+pub mod Went

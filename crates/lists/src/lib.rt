@@ -2,3 +2,4 @@
 
 pub mod sort; // starts and order by counting sort
 pub mod relations; // eight relations a block of the working area
+pub mod entries; // the entries of one relation
