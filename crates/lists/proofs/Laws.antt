@@ -9,3 +9,4 @@ pub mod Marks
 pub mod Difference
 pub mod Meeting
 pub mod Went
+pub mod Emitting

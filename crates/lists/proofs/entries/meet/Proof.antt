@@ -1,30 +1,8 @@
-use Prim.Native.Nat.{ℕ, zero, suc, _+_, _*_, _-_, _/_, _%_, _^_, _≤_, _<_}
-use mathlib.Core.Path.{_≡_, refl, sym, ap, ap₂, _∙_, subst}
-use mathlib.Core.Logic.{_⊎_, inl, inr, ⊎-elim}
-use mathlib.Core.List.{List, [], _∷_, _++_}
-use mathlib.Core.Bool.{Bool, true, false, cond, not, _&&_, _||_}
-use native.Mathlib.Omega.{arith}
-use native.Mathlib.Numerals.{add-one}
 use borrow.Author.Needs.{needs}
-use borrow.Author.Tests.{eq-eqb, ne-eqb, not-true, not-false}
-use lib.Dec.{eqb, leb, ltb}
-use lib.Bits.{bitOr}
-use lib.ListN.{length, getD, take, drop, set, length-set}
-use Rattle.lists.specs.Relations.{bitAt, Frame, Run, Slot, Block, Gathered, gathers, beyond, EdgesIn, markedBy, Marked}
-use Rattle.lists.proofs.Laws.Areas as areas
-use Rattle.lists.proofs.Laws.Bits as bits
-use Rattle.lists.proofs.Laws.Blocks as blocks
-use Rattle.lists.proofs.Laws.Marks as marking
-use Rattle.rules.proofs.Laws.Places.{place-lt, row-fits, square-le}
-use Rattle.rules.specs.Accept.{difference}
-use Rattle.lists.specs.Entries.{Went, Firsts, Emitting, Walking, entriesRow, entriesRows, isFirst, weight, blocks, codes}
 use Rattle.lists.proofs.Laws.Meeting as meeting
-use Rattle.lists.proofs.Laws.Went as went
 use borrow.Author.Needs.{needs}
 use Rattle.lists.proofs.entries.meet.Statement.{statement}
 use Rattle.lists.proofs.entries.meet.Tie as tie
-use Rattle.lists.proofs.entries.meet.Reads as reads
-use Rattle.lists.proofs.entries.meet.Lts as lts
 
 mul-i : tie.Need-mul-i
 mul-i c = search needs
