@@ -10,3 +10,6 @@ pub mod Difference
 pub mod Meeting
 pub mod Went
 pub mod Emitting
+pub mod Sequences
+pub mod Walking
+pub mod Leaves
