@@ -13,3 +13,4 @@ pub mod Emitting
 pub mod Sequences
 pub mod Walking
 pub mod Leaves
+pub mod Lengths
