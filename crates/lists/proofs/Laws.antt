@@ -17,3 +17,5 @@ pub mod Lengths
 pub mod Matching
 pub mod Places
 pub mod Found
+pub mod Written
+pub mod Codes
