@@ -2,3 +2,5 @@
 
 // refusals 1 to 5, that several entries share
 pub mod links;
+// the orders of refusals of the answers
+mod chains;
