@@ -4,3 +4,5 @@
 pub mod links;
 // the orders of refusals of the answers
 mod chains;
+// direct, stored and class answer
+pub mod answers;
