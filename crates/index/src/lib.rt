@@ -6,3 +6,5 @@ pub mod links;
 mod chains;
 // direct, stored and class answer
 pub mod answers;
+// the class numbers of a set of pairs
+mod classes;
