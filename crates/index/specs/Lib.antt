@@ -1,0 +1,4 @@
+pub mod Links
+pub mod Calls
+pub mod Telling
+pub mod Classes
