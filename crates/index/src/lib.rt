@@ -1,4 +1,6 @@
-// The public entries of the index. None asks anything of its caller: what is wrong with a call is answered by a refusal.
+// The index: its public entries, with no requirement on what is lent. Each contract is one record of the crate rules.
 
+// refusals 1 to 5, that several entries share
+pub mod links;
 // pairs of a class, and sequence lookup
 pub mod parts;

@@ -1,0 +1,28 @@
+-- What a link's answer says of its verdict, and how links make a chain.
+use Prim.Native.Nat.{ℕ}
+use mathlib.Core.Path.{_≡_, refl, sym, ap, _∙_}
+use native.Mathlib.Omega.{arith}
+use Rattle.rules.specs.declared.Refusal.{Refusal}
+use Rattle.rules.specs.Verdict.{Verdict, good, refuse, _orElse_}
+use Rattle.rules.proofs.Laws.Verdict.{good-or-else}
+use Rattle.index.specs.declared.links.Link.{Link}
+use Rattle.index.specs.declared.links.Link.the-variants.{Good, Refused}
+use Rattle.index.specs.Links.{linkOf}
+
+pub link-good : (v : Verdict) {l : Link} → l ≡ linkOf v → l ≡ Good → v ≡ good
+unfolding linkOf
+link-good good e g = refl
+link-good (refuse r) e g = absurd (let z : _≡_ {A = ℕ} 0 1 = cc in omega arith)
+
+pub link-refused : (v : Verdict) {l : Link} (r : Refusal) → l ≡ linkOf v → l ≡ Refused r → v ≡ refuse r
+unfolding linkOf
+link-refused good r e g = absurd (let z : _≡_ {A = ℕ} 0 1 = cc in omega arith)
+link-refused (refuse s) r e g = let q : s ≡ r = cc in ap refuse q
+
+-- a chain goes on past a link that finds nothing, and ends at one that refuses
+pub chain-on : (v next : Verdict) {l : Link} → v ≡ good → l ≡ linkOf next → l ≡ linkOf (v orElse next)
+chain-on v next g e = e ∙ ap linkOf (sym (good-or-else v next g))
+
+pub chain-end : (v next : Verdict) {l : Link} (r : Refusal) → l ≡ linkOf v → l ≡ Refused r → l ≡ linkOf (v orElse next)
+unfolding _orElse_
+chain-end v next r e g = e ∙ ap linkOf (link-refused v r e g ∙ ap (λ (w : Verdict). w orElse next) (sym (link-refused v r e g)))
