@@ -1,0 +1,16 @@
+pub mod Counting
+pub mod Front
+pub mod Sorting
+pub mod Numbers
+pub mod Bits
+pub mod Areas
+pub mod Blocks
+pub mod Marks
+pub mod Difference
+pub mod Meeting
+pub mod Went
+pub mod Emitting
+pub mod Sequences
+pub mod Walking
+pub mod Leaves
+pub mod Lengths
