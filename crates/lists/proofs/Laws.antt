@@ -14,3 +14,6 @@ pub mod Sequences
 pub mod Walking
 pub mod Leaves
 pub mod Lengths
+pub mod Matching
+pub mod Places
+pub mod Found

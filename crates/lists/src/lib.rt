@@ -5,3 +5,4 @@ pub mod relations; // eight relations a block of the working area
 pub mod entries; // the entries of one relation
 pub mod sequences; // the walk over sequences
 pub mod listing; // the entry list, written or compared
+pub mod matching; // stored starts and order, compared

@@ -1,19 +1,17 @@
 -- The entries of all lengths, and the two ways in which they are used: written, and compared.
 use Prim.Native.Nat.{ℕ, zero, suc, _+_, _*_, _/_, _≤_, _<_}
-use mathlib.Core.Path.{_≡_, refl, sym, ap, _∙_, subst}
+use mathlib.Core.Path.{_≡_, refl, sym, ap, _∙_}
 use mathlib.Core.List.{List, [], _∷_, _++_, append-nil, append-assoc}
 use native.Mathlib.Numerals.{add-one}
 use native.Mathlib.Omega.{arith}
 use lib.Dec.{eqb}
 use lib.ListN.{length, drop}
-use Rattle.rules.specs.Accept.{difference}
 use Rattle.rules.specs.Graph.{Graph, graphOf}
 use Rattle.rules.specs.Levels.{maxOf}
 use Rattle.rules.specs.Lists.{joins, codeFrom, entriesBehind, entriesUpTo, entriesOf, eachUpTo}
 use Rattle.lists.proofs.Laws.Difference.{is-difference}
 use Rattle.lists.proofs.Laws.Leaves.{leaf}
 use Rattle.lists.specs.Sort.{Contiguous}
-use Rattle.lists.specs.Relations.{Frame}
 use Rattle.lists.specs.Entries.{Went, Listed, Compared, entriesRows}
 
 -- the entries of the sequences of 1 to j symbols

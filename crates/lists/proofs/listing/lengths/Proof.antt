@@ -1,44 +1,21 @@
-use Prim.Native.Nat.{ℕ, zero, suc, _+_, _*_, _-_, _/_, _%_, _^_, _≤_, _<_}
-use mathlib.Core.Path.{_≡_, refl, sym, ap, ap₂, _∙_, subst}
-use mathlib.Core.Logic.{_⊎_, inl, inr, ⊎-elim}
-use mathlib.Core.List.{List, [], _∷_, _++_}
-use mathlib.Core.Bool.{Bool, true, false, cond, not, _&&_, _||_}
+use Prim.Native.Nat.{ℕ, _+_, _*_, _-_, _≤_}
+use mathlib.Core.Path.{_≡_, refl, _∙_}
+use mathlib.Core.List.{List, []}
 use native.Mathlib.Omega.{arith}
-use native.Mathlib.Numerals.{add-one}
-use borrow.Author.Needs.{needs}
-use borrow.Author.Tests.{eq-eqb, ne-eqb, not-true, not-false}
-use lib.Dec.{eqb, leb, ltb}
-use lib.Bits.{bitOr}
-use lib.ListN.{length, getD, take, drop, set, length-set}
-use Rattle.lists.specs.Relations.{bitAt, Frame, Run, Slot, Block, Gathered, gathers, beyond, EdgesIn, markedBy, Marked}
+use lib.ListN.{length}
+use Rattle.lists.specs.Relations.{Frame, Marked}
 use Rattle.lists.proofs.Laws.Areas as areas
-use Rattle.lists.proofs.Laws.Bits as bits
-use Rattle.lists.proofs.Laws.Blocks as blocks
-use Rattle.lists.proofs.Laws.Marks as marking
-use Rattle.rules.proofs.Laws.Places.{place-lt, row-fits, square-le}
-use Rattle.rules.specs.Accept.{difference}
-use Rattle.lists.specs.Entries.{Went, Firsts, Emitting, Walking, entriesRow, entriesRows, isFirst, weight, blocks, codes}
-use Rattle.lists.proofs.Laws.Meeting as meeting
+use Rattle.rules.proofs.Laws.Places.{square-le}
+use Rattle.lists.specs.Entries.{Went, Firsts}
 use Rattle.lists.proofs.Laws.Went as went
 use Rattle.rules.specs.Levels.{maxOf}
-use Rattle.lists.proofs.Laws.Emitting as emitting
-use Rattle.lists.proofs.Laws.Numbers as numbers
 use Rattle.rules.specs.Graph.{graphOf}
-use Rattle.rules.specs.Lists.{joins, codeFrom, entriesBehind, entriesUpTo}
 use Rattle.lists.specs.Sort.{Contiguous}
-use Rattle.lists.specs.Relations.{Extended}
-use Rattle.lists.proofs.Laws.Sequences as sequences
 use Rattle.lists.proofs.Laws.Walking as walking
 use Rattle.lists.proofs.Laws.Leaves as leaving
-use Rattle.lists.specs.Entries.{Listing, Listed, Compared}
 use Rattle.lists.proofs.Laws.Lengths as listed
 use Rattle.lists.proofs.listing.lengths.Statement.{statement}
 use Rattle.lists.proofs.listing.lengths.Tie as tie
-use Rattle.lists.proofs.listing.lengths.Reads as reads
-use Rattle.lists.proofs.listing.lengths.Lts as lts
-use Rattle.lists.proofs.entries.emit.Reads as emit-reads
-use Rattle.lists.proofs.relations.identity.Reads as identity-reads
-use Rattle.lists.proofs.sequences.walk.Reads as walk-reads
 
 abbrev Inv-loop : tie.InvT-loop
 Inv-loop table labels n k area₀ stored out₀ start done₀ j₀ area out done j = (j ≤ k) × (done .count ≤ done₀ .count + j * 1073741824) × (Frame (2 * (n * n)) (8 * (n * n)) area₀ area) × (length out ≡ length out₀) × ((es : List ℕ) → Contiguous table → Firsts n table area₀ → Marked n es area₀ → Went (done₀ .count) (done₀ .met) (done .count) (done .met) (listed.longer (graphOf n labels es) table (maxOf table) j) stored out₀ out)
@@ -57,13 +34,13 @@ identity-requires c κs = (c .before .before .before .before .before .pre .small
 
 emit-requires : tie.Need-emit-requires Inv-loop μ-loop
 emit-requires c κs = record {
-    small = c .before .before .before .before .before .before .before .before .before .before .pre .small;
-    label = omega arith;
-    square = c .before .before .before .before .before .before .before .before .before .before .pre .square;
-    few = omega (arith, square-le (c .before .before .before .before .before .before .before .before .before .before .pre .small));
-    room = omega (arith, c .before .before .before .before .before .before .before .before .before .before .pre .area, c .before .before .before .before .identity .ensures .0 .size);
-    area = omega (arith, c .before .before .before .before .before .before .before .before .before .before .pre .area, c .before .before .before .before .identity .ensures .0 .size);
-  }
+  small = c .before .before .before .before .before .before .before .before .before .before .pre .small;
+  label = omega arith;
+  square = c .before .before .before .before .before .before .before .before .before .before .pre .square;
+  few = omega (arith, square-le (c .before .before .before .before .before .before .before .before .before .before .pre .small));
+  room = omega (arith, c .before .before .before .before .before .before .before .before .before .before .pre .area, c .before .before .before .before .identity .ensures .0 .size);
+  area = omega (arith, c .before .before .before .before .before .before .before .before .before .before .pre .area, c .before .before .before .before .identity .ensures .0 .size);
+}
 
 loop-holds : tie.Need-loop-holds Inv-loop μ-loop
 loop-holds c = (omega arith, omega arith, areas.frame-refl _ _ _, refl, λ es h f m. went.went-as _ _ _ _ _ _ _ _ _ (listed.longer-none _ _ _) (went.went-none _ _ _ _))
@@ -73,15 +50,15 @@ add-walk c = omega (arith, c .before .before .before .before .before .before .be
 
 walk-requires : tie.Need-walk-requires Inv-loop μ-loop
 walk-requires c κs = record {
-    labelled = c .before .before .before .before .before .before .before .before .before .before .before .before .before .before .before .before .before .pre .labelled;
-    small = c .before .before .before .before .before .before .before .before .before .before .before .before .before .before .before .before .before .pre .small;
-    square = c .before .before .before .before .before .before .before .before .before .before .before .before .before .before .before .before .before .pre .square;
-    deep = omega arith;
-    few = omega (arith, c .before .before .before .loop .inv .1, c .before .before .before .before .before .before .emit .ensures .0, square-le (c .before .before .before .before .before .before .before .before .before .before .before .before .before .before .before .before .before .pre .small), c .before .before .before .before .before .before .before .before .before .before .before .before .before .before .before .before .before .pre .short, leaving.weight-small (c .before .before .before .loop .j + 1) (omega (arith, c .before .before .before .before .before .before .before .before .before .before .before .before .before .before .before .before .before .pre .short)));
-    coded = leaving.codes-small (c .before .before .before .loop .j + 1) (omega (arith, c .before .before .before .before .before .before .before .before .before .before .before .before .before .before .before .before .before .pre .short));
-    room = omega (arith, leaving.blocks-small (c .before .before .before .loop .j + 1) (c .before .before .before .before .before .before .before .before .before .before .before .before .before .before .before .before .before .args .n * c .before .before .before .before .before .before .before .before .before .before .before .before .before .before .before .before .before .args .n) (omega (arith, c .before .before .before .before .before .before .before .before .before .before .before .before .before .before .before .before .before .pre .short)));
-    area = omega (arith, c .before .before .before .before .before .before .before .before .before .before .before .before .before .before .before .before .before .pre .area, c .before .before .before .before .before .before .before .before .before .before .before .identity .ensures .0 .size, c .before .before .before .loop .inv .2 .size);
-  }
+  labelled = c .before .before .before .before .before .before .before .before .before .before .before .before .before .before .before .before .before .pre .labelled;
+  small = c .before .before .before .before .before .before .before .before .before .before .before .before .before .before .before .before .before .pre .small;
+  square = c .before .before .before .before .before .before .before .before .before .before .before .before .before .before .before .before .before .pre .square;
+  deep = omega arith;
+  few = omega (arith, c .before .before .before .loop .inv .1, c .before .before .before .before .before .before .emit .ensures .0, square-le (c .before .before .before .before .before .before .before .before .before .before .before .before .before .before .before .before .before .pre .small), c .before .before .before .before .before .before .before .before .before .before .before .before .before .before .before .before .before .pre .short, leaving.weight-small (c .before .before .before .loop .j + 1) (omega (arith, c .before .before .before .before .before .before .before .before .before .before .before .before .before .before .before .before .before .pre .short)));
+  coded = leaving.codes-small (c .before .before .before .loop .j + 1) (omega (arith, c .before .before .before .before .before .before .before .before .before .before .before .before .before .before .before .before .before .pre .short));
+  room = omega (arith, leaving.blocks-small (c .before .before .before .loop .j + 1) (c .before .before .before .before .before .before .before .before .before .before .before .before .before .before .before .before .before .args .n * c .before .before .before .before .before .before .before .before .before .before .before .before .before .before .before .before .before .args .n) (omega (arith, c .before .before .before .before .before .before .before .before .before .before .before .before .before .before .before .before .before .pre .short)));
+  area = omega (arith, c .before .before .before .before .before .before .before .before .before .before .before .before .before .before .before .before .before .pre .area, c .before .before .before .before .before .before .before .before .before .before .before .identity .ensures .0 .size, c .before .before .before .loop .inv .2 .size);
+}
 
 add-j : tie.Need-add-j Inv-loop μ-loop
 add-j c = omega (arith, c .before .before .before .before .before .before .before .before .before .before .before .before .before .before .before .before .before .before .before .before .before .before .pre .short)
@@ -109,9 +86,8 @@ same-length-2 : tie.Need-same-length-2 Inv-loop μ-loop
 same-length-2 c = c .before .loop .inv .3 ∙ c .before .before .before .before .emit .kept .1 .1 .1 .1 .1 .1 .1 .0
 
 returns : tie.Need-returns Inv-loop μ-loop
-returns c = 
-    let early : Frame (2 * (c .before .before .before .before .before .before .before .before .before .before .before .before .before .before .before .args .n * c .before .before .before .before .before .before .before .before .before .before .before .before .before .before .before .args .n)) (8 * (c .before .before .before .before .before .before .before .before .before .before .before .before .before .before .before .args .n * c .before .before .before .before .before .before .before .before .before .before .before .before .before .before .before .args .n)) _ _ = areas.frame-wide _ _ _ _ _ _ (omega arith) (omega arith) (c .before .before .before .before .before .before .before .before .before .identity .ensures .0) in
-    (
+returns c =
+    let early : Frame (2 * (c .before .before .before .before .before .before .before .before .before .before .before .before .before .before .before .args .n * c .before .before .before .before .before .before .before .before .before .before .before .before .before .before .before .args .n)) (8 * (c .before .before .before .before .before .before .before .before .before .before .before .before .before .before .before .args .n * c .before .before .before .before .before .before .before .before .before .before .before .before .before .before .before .args .n)) _ _ = areas.frame-wide _ _ _ _ _ _ (omega arith) (omega arith) (c .before .before .before .before .before .before .before .before .before .identity .ensures .0) in (
       areas.frame-trans _ _ _ _ _ early (c .before .loop .inv .2),
       λ es h f m.
           let f′ = walking.firsts-kept _ _ _ _ _ _ (omega arith) early f in

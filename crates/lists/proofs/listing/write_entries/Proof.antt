@@ -1,45 +1,16 @@
-use Prim.Native.Nat.{ℕ, zero, suc, _+_, _*_, _-_, _/_, _%_, _^_, _≤_, _<_}
-use mathlib.Core.Path.{_≡_, refl, sym, ap, ap₂, _∙_, subst}
-use mathlib.Core.Logic.{_⊎_, inl, inr, ⊎-elim}
-use mathlib.Core.List.{List, [], _∷_, _++_}
-use mathlib.Core.Bool.{Bool, true, false, cond, not, _&&_, _||_}
+use Prim.Native.Nat.{ℕ}
+use mathlib.Core.Path.{_≡_, refl, sym, ap}
+use mathlib.Core.List.{List, _++_}
 use native.Mathlib.Omega.{arith}
-use native.Mathlib.Numerals.{add-one}
 use borrow.Author.Needs.{needs}
-use borrow.Author.Tests.{eq-eqb, ne-eqb, not-true, not-false}
-use lib.Dec.{eqb, leb, ltb}
-use lib.Bits.{bitOr}
-use lib.ListN.{length, getD, take, drop, set, length-set}
-use Rattle.lists.specs.Relations.{bitAt, Frame, Run, Slot, Block, Gathered, gathers, beyond, EdgesIn, markedBy, Marked}
+use lib.ListN.{length, drop}
 use Rattle.lists.proofs.Laws.Areas as areas
-use Rattle.lists.proofs.Laws.Bits as bits
-use Rattle.lists.proofs.Laws.Blocks as blocks
-use Rattle.lists.proofs.Laws.Marks as marking
-use Rattle.rules.proofs.Laws.Places.{place-lt, row-fits, square-le}
-use Rattle.rules.specs.Accept.{difference}
-use Rattle.lists.specs.Entries.{Went, Firsts, Emitting, Walking, entriesRow, entriesRows, isFirst, weight, blocks, codes}
-use Rattle.lists.proofs.Laws.Meeting as meeting
-use Rattle.lists.proofs.Laws.Went as went
-use Rattle.rules.specs.Levels.{maxOf}
-use Rattle.lists.proofs.Laws.Emitting as emitting
-use Rattle.lists.proofs.Laws.Numbers as numbers
 use Rattle.rules.specs.Graph.{graphOf}
-use Rattle.rules.specs.Lists.{joins, codeFrom, entriesBehind, entriesUpTo}
-use Rattle.lists.specs.Sort.{Contiguous}
-use Rattle.lists.specs.Relations.{Extended}
-use Rattle.lists.proofs.Laws.Sequences as sequences
 use Rattle.lists.proofs.Laws.Walking as walking
-use Rattle.lists.proofs.Laws.Leaves as leaving
-use Rattle.lists.specs.Entries.{Listing, Listed, Compared}
 use Rattle.lists.proofs.Laws.Lengths as listed
 use borrow.Author.Needs.{needs}
 use Rattle.lists.proofs.listing.write_entries.Statement.{statement}
 use Rattle.lists.proofs.listing.write_entries.Tie as tie
-use Rattle.lists.proofs.listing.write_entries.Reads as reads
-use Rattle.lists.proofs.listing.write_entries.Lts as lts
-use Rattle.lists.proofs.entries.mark_firsts.Reads as mark-firsts-reads
-use Rattle.lists.proofs.listing.lengths.Reads as lengths-reads
-use Rattle.lists.proofs.relations.mark_edges.Reads as mark-edges-reads
 
 mark-edges-requires : tie.Need-mark-edges-requires
 mark-edges-requires c κs = search needs
@@ -66,12 +37,11 @@ same-length-2 : tie.Need-same-length-2
 same-length-2 c = search needs
 
 returns : tie.Need-returns
-returns c = 
-    let e : c .before .before .before .before .before .lengths .last .1 .1 .1 .1 .1 .1 .0 ++ drop 0 (c .before .before .before .before .before .before .before .before .before .before .before .before .before .before .before .before .before .before .before .before .before .args .entries .now) ≡ c .before .before .before .before .before .before .before .before .before .before .before .before .before .before .before .before .before .before .before .before .before .args .entries .now = listed.part-back (c .before .before .before .before .before .lengths .last .1 .1 .1 .1 .1 .1 .0) (c .before .before .before .before .before .before .before .before .before .before .before .before .before .before .before .before .before .before .before .before .before .args .entries .now) (c .before .before .before .before .before .lengths .kept .1 .1 .1 .1 .1 .1 .0) in
-    (
+returns c =
+    let e : c .before .before .before .before .before .lengths .last .1 .1 .1 .1 .1 .1 .0 ++ drop 0 (c .before .before .before .before .before .before .before .before .before .before .before .before .before .before .before .before .before .before .before .before .before .args .entries .now) ≡ c .before .before .before .before .before .before .before .before .before .before .before .before .before .before .before .before .before .before .before .before .before .args .entries .now = listed.part-back (c .before .before .before .before .before .lengths .last .1 .1 .1 .1 .1 .1 .0) (c .before .before .before .before .before .before .before .before .before .before .before .before .before .before .before .before .before .before .before .before .before .args .entries .now) (c .before .before .before .before .before .lengths .kept .1 .1 .1 .1 .1 .1 .0) in (
       areas.frame-trans _ _ _ _ _ (areas.frame-wide _ _ _ _ _ _ (omega arith) (omega arith) (c .before .before .before .before .before .before .before .before .before .before .before .before .before .before .before .mark-edges .ensures .0)) (areas.frame-trans _ _ _ _ _ (areas.frame-wide _ _ _ _ _ _ (omega arith) (omega arith) (c .before .before .before .before .before .before .before .before .before .before .before .mark-firsts .ensures .0)) (areas.frame-wide _ _ _ _ _ _ (omega arith) (omega arith) (c .before .before .before .before .before .lengths .ensures .0))),
       listed.listed-as _ _ _ _ _ _ refl (sym e)
-      (listed.listed-short (graphOf (c .before .before .before .before .before .before .before .before .before .before .before .before .before .before .before .before .before .before .before .before .before .args .n) (c .before .before .before .before .before .before .before .before .before .before .before .before .before .before .before .before .before .before .before .before .before .args .labels) (c .before .before .before .before .before .before .before .before .before .before .before .before .before .before .before .before .before .before .before .before .before .args .edges .now)) (c .before .before .before .before .before .before .before .before .before .before .before .before .before .before .before .before .before .before .before .before .before .args .k) (c .before .before .before .before .before .before .before .before .before .before .before .before .before .before .before .before .before .before .before .before .before .args .table .now) _ _ _ _ _ _ (c .before .before .before .before .before .lengths .ensures .1 (c .before .before .before .before .before .before .before .before .before .before .before .before .before .before .before .before .before .before .before .before .before .args .edges .now) (c .before .before .before .before .before .before .before .before .before .before .before .before .before .before .before .before .before .before .before .before .before .pre .1) (c .before .before .before .before .before .before .before .before .before .before .before .mark-firsts .ensures .1) (walking.marked-kept _ _ _ _ _ _ (omega arith) (c .before .before .before .before .before .before .before .before .before .before .before .mark-firsts .ensures .0) (c .before .before .before .before .before .before .before .before .before .before .before .before .before .before .before .mark-edges .ensures .1))) (omega (arith, c .if1 .taken, ap (λ (l : List ℕ). length l) e))),
+          (listed.listed-short (graphOf (c .before .before .before .before .before .before .before .before .before .before .before .before .before .before .before .before .before .before .before .before .before .args .n) (c .before .before .before .before .before .before .before .before .before .before .before .before .before .before .before .before .before .before .before .before .before .args .labels) (c .before .before .before .before .before .before .before .before .before .before .before .before .before .before .before .before .before .before .before .before .before .args .edges .now)) (c .before .before .before .before .before .before .before .before .before .before .before .before .before .before .before .before .before .before .before .before .before .args .k) (c .before .before .before .before .before .before .before .before .before .before .before .before .before .before .before .before .before .before .before .before .before .args .table .now) _ _ _ _ _ _ (c .before .before .before .before .before .lengths .ensures .1 (c .before .before .before .before .before .before .before .before .before .before .before .before .before .before .before .before .before .before .before .before .before .args .edges .now) (c .before .before .before .before .before .before .before .before .before .before .before .before .before .before .before .before .before .before .before .before .before .pre .1) (c .before .before .before .before .before .before .before .before .before .before .before .mark-firsts .ensures .1) (walking.marked-kept _ _ _ _ _ _ (omega arith) (c .before .before .before .before .before .before .before .before .before .before .before .mark-firsts .ensures .0) (c .before .before .before .before .before .before .before .before .before .before .before .before .before .before .before .mark-edges .ensures .1))) (omega (arith, c .if1 .taken, ap (λ (l : List ℕ). length l) e))),
     )
 
 slice-aggregate-lengths-3 : tie.Need-slice-aggregate-lengths-3
@@ -87,12 +57,11 @@ same-length-4 : tie.Need-same-length-4
 same-length-4 c = search needs
 
 returns-2 : tie.Need-returns-2
-returns-2 c = 
-    let e : c .before .before .before .before .before .before .before .before .before .before .before .before .before .lengths .last .1 .1 .1 .1 .1 .1 .0 ++ drop 0 (c .before .before .before .before .before .before .before .before .before .before .before .before .before .before .before .before .before .before .before .before .before .before .before .before .before .before .before .before .before .args .entries .now) ≡ c .before .before .before .before .before .before .before .before .before .before .before .before .before .before .before .before .before .before .before .before .before .before .before .before .before .before .before .before .before .args .entries .now = listed.part-back (c .before .before .before .before .before .before .before .before .before .before .before .before .before .lengths .last .1 .1 .1 .1 .1 .1 .0) (c .before .before .before .before .before .before .before .before .before .before .before .before .before .before .before .before .before .before .before .before .before .before .before .before .before .before .before .before .before .args .entries .now) (c .before .before .before .before .before .before .before .before .before .before .before .before .before .lengths .kept .1 .1 .1 .1 .1 .1 .0) in
-    (
+returns-2 c =
+    let e : c .before .before .before .before .before .before .before .before .before .before .before .before .before .lengths .last .1 .1 .1 .1 .1 .1 .0 ++ drop 0 (c .before .before .before .before .before .before .before .before .before .before .before .before .before .before .before .before .before .before .before .before .before .before .before .before .before .before .before .before .before .args .entries .now) ≡ c .before .before .before .before .before .before .before .before .before .before .before .before .before .before .before .before .before .before .before .before .before .before .before .before .before .before .before .before .before .args .entries .now = listed.part-back (c .before .before .before .before .before .before .before .before .before .before .before .before .before .lengths .last .1 .1 .1 .1 .1 .1 .0) (c .before .before .before .before .before .before .before .before .before .before .before .before .before .before .before .before .before .before .before .before .before .before .before .before .before .before .before .before .before .args .entries .now) (c .before .before .before .before .before .before .before .before .before .before .before .before .before .lengths .kept .1 .1 .1 .1 .1 .1 .0) in (
       areas.frame-trans _ _ _ _ _ (areas.frame-trans _ _ _ _ _ (areas.frame-wide _ _ _ _ _ _ (omega arith) (omega arith) (c .before .before .before .before .before .before .before .before .before .before .before .before .before .before .before .before .before .before .before .before .before .before .before .mark-edges .ensures .0)) (areas.frame-trans _ _ _ _ _ (areas.frame-wide _ _ _ _ _ _ (omega arith) (omega arith) (c .before .before .before .before .before .before .before .before .before .before .before .before .before .before .before .before .before .before .before .mark-firsts .ensures .0)) (areas.frame-wide _ _ _ _ _ _ (omega arith) (omega arith) (c .before .before .before .before .before .before .before .before .before .before .before .before .before .lengths .ensures .0)))) (areas.frame-wide _ _ _ _ _ _ (omega arith) (omega arith) (c .before .before .before .before .lengths2 .ensures .0)),
       listed.listed-as _ _ _ _ _ _ e refl
-      (listed.listed-room (graphOf (c .before .before .before .before .before .before .before .before .before .before .before .before .before .before .before .before .before .before .before .before .before .before .before .before .before .before .before .before .before .args .n) (c .before .before .before .before .before .before .before .before .before .before .before .before .before .before .before .before .before .before .before .before .before .before .before .before .before .before .before .before .before .args .labels) (c .before .before .before .before .before .before .before .before .before .before .before .before .before .before .before .before .before .before .before .before .before .before .before .before .before .before .before .before .before .args .edges .now)) (c .before .before .before .before .before .before .before .before .before .before .before .before .before .before .before .before .before .before .before .before .before .before .before .before .before .before .before .before .before .args .k) (c .before .before .before .before .before .before .before .before .before .before .before .before .before .before .before .before .before .before .before .before .before .before .before .before .before .before .before .before .before .args .table .now) _ _ _ _ _ _ _ _ _ _ (c .before .before .before .before .before .before .before .before .before .before .before .before .before .lengths .ensures .1 (c .before .before .before .before .before .before .before .before .before .before .before .before .before .before .before .before .before .before .before .before .before .before .before .before .before .before .before .before .before .args .edges .now) (c .before .before .before .before .before .before .before .before .before .before .before .before .before .before .before .before .before .before .before .before .before .before .before .before .before .before .before .before .before .pre .1) (c .before .before .before .before .before .before .before .before .before .before .before .before .before .before .before .before .before .before .before .mark-firsts .ensures .1) (walking.marked-kept _ _ _ _ _ _ (omega arith) (c .before .before .before .before .before .before .before .before .before .before .before .before .before .before .before .before .before .before .before .mark-firsts .ensures .0) (c .before .before .before .before .before .before .before .before .before .before .before .before .before .before .before .before .before .before .before .before .before .before .before .mark-edges .ensures .1))) (c .before .before .before .before .lengths2 .ensures .1 (c .before .before .before .before .before .before .before .before .before .before .before .before .before .before .before .before .before .before .before .before .before .before .before .before .before .before .before .before .before .args .edges .now) (c .before .before .before .before .before .before .before .before .before .before .before .before .before .before .before .before .before .before .before .before .before .before .before .before .before .before .before .before .before .pre .1) (walking.firsts-kept _ _ _ _ _ _ (omega arith) (c .before .before .before .before .before .before .before .before .before .before .before .before .before .lengths .ensures .0) (c .before .before .before .before .before .before .before .before .before .before .before .before .before .before .before .before .before .before .before .mark-firsts .ensures .1)) (walking.marked-kept _ _ _ _ _ _ (omega arith) (c .before .before .before .before .before .before .before .before .before .before .before .before .before .lengths .ensures .0) (walking.marked-kept _ _ _ _ _ _ (omega arith) (c .before .before .before .before .before .before .before .before .before .before .before .before .before .before .before .before .before .before .before .mark-firsts .ensures .0) (c .before .before .before .before .before .before .before .before .before .before .before .before .before .before .before .before .before .before .before .before .before .before .before .mark-edges .ensures .1)))) (c .before .before .before .before .before .before .before .before .if1 .left)),
+          (listed.listed-room (graphOf (c .before .before .before .before .before .before .before .before .before .before .before .before .before .before .before .before .before .before .before .before .before .before .before .before .before .before .before .before .before .args .n) (c .before .before .before .before .before .before .before .before .before .before .before .before .before .before .before .before .before .before .before .before .before .before .before .before .before .before .before .before .before .args .labels) (c .before .before .before .before .before .before .before .before .before .before .before .before .before .before .before .before .before .before .before .before .before .before .before .before .before .before .before .before .before .args .edges .now)) (c .before .before .before .before .before .before .before .before .before .before .before .before .before .before .before .before .before .before .before .before .before .before .before .before .before .before .before .before .before .args .k) (c .before .before .before .before .before .before .before .before .before .before .before .before .before .before .before .before .before .before .before .before .before .before .before .before .before .before .before .before .before .args .table .now) _ _ _ _ _ _ _ _ _ _ (c .before .before .before .before .before .before .before .before .before .before .before .before .before .lengths .ensures .1 (c .before .before .before .before .before .before .before .before .before .before .before .before .before .before .before .before .before .before .before .before .before .before .before .before .before .before .before .before .before .args .edges .now) (c .before .before .before .before .before .before .before .before .before .before .before .before .before .before .before .before .before .before .before .before .before .before .before .before .before .before .before .before .before .pre .1) (c .before .before .before .before .before .before .before .before .before .before .before .before .before .before .before .before .before .before .before .mark-firsts .ensures .1) (walking.marked-kept _ _ _ _ _ _ (omega arith) (c .before .before .before .before .before .before .before .before .before .before .before .before .before .before .before .before .before .before .before .mark-firsts .ensures .0) (c .before .before .before .before .before .before .before .before .before .before .before .before .before .before .before .before .before .before .before .before .before .before .before .mark-edges .ensures .1))) (c .before .before .before .before .lengths2 .ensures .1 (c .before .before .before .before .before .before .before .before .before .before .before .before .before .before .before .before .before .before .before .before .before .before .before .before .before .before .before .before .before .args .edges .now) (c .before .before .before .before .before .before .before .before .before .before .before .before .before .before .before .before .before .before .before .before .before .before .before .before .before .before .before .before .before .pre .1) (walking.firsts-kept _ _ _ _ _ _ (omega arith) (c .before .before .before .before .before .before .before .before .before .before .before .before .before .lengths .ensures .0) (c .before .before .before .before .before .before .before .before .before .before .before .before .before .before .before .before .before .before .before .mark-firsts .ensures .1)) (walking.marked-kept _ _ _ _ _ _ (omega arith) (c .before .before .before .before .before .before .before .before .before .before .before .before .before .lengths .ensures .0) (walking.marked-kept _ _ _ _ _ _ (omega arith) (c .before .before .before .before .before .before .before .before .before .before .before .before .before .before .before .before .before .before .before .mark-firsts .ensures .0) (c .before .before .before .before .before .before .before .before .before .before .before .before .before .before .before .before .before .before .before .before .before .before .before .mark-edges .ensures .1)))) (c .before .before .before .before .before .before .before .before .if1 .left)),
     )
 
 pub write-entries-spec : {M : Type 1} → statement M
