@@ -2,5 +2,7 @@
 
 // refusals 1 to 5, that several entries share
 pub mod links;
+// the orders of refusals of the answers
+mod chains;
 // pairs of a class, and sequence lookup
 pub mod parts;
