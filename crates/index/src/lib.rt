@@ -4,5 +4,15 @@
 pub mod links;
 // the orders of refusals of the answers
 mod chains;
+// the orders of refusals of build and check
+mod orders;
 // pairs of a class, and sequence lookup
 pub mod parts;
+// the level-k table among the levels
+mod top;
+// what build does once nothing refuses
+mod building;
+// what check does once nothing refuses
+mod checking;
+// build and check
+pub mod tables;

@@ -24,7 +24,7 @@ use Rattle.rules.proofs.Laws.Loops.{any-more, first-found}
 use Rattle.query.proofs.Laws.Runs.{from-to, to-at-most, first-past-all}
 use Rattle.index.specs.Parts.{Inside, isUnknown, firstUnknown}
 
-pred-is : (c : ℕ) → pred c ≡ c - 1
+pub pred-is : (c : ℕ) → pred c ≡ c - 1
 pred-is zero = refl
 pred-is (suc c) = omega arith
 
