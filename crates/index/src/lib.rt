@@ -8,3 +8,15 @@ mod chains;
 pub mod answers;
 // the class numbers of a set of pairs
 mod classes;
+// the orders of refusals of build and check
+mod orders;
+// pairs of a class, and sequence lookup
+pub mod parts;
+// the level-k table among the levels
+mod top;
+// what build does once nothing refuses
+mod building;
+// what check does once nothing refuses
+mod checking;
+// build and check
+pub mod tables;
