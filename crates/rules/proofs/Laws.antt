@@ -1,3 +1,4 @@
+-- Laws that every crate cites: tests, finite lists, positions, graphs, levels, entries, refusals.
 pub mod Tests
 pub mod Finite
 pub mod Listing

@@ -1,3 +1,4 @@
+-- What is promised of the definitions, each stated for a reader who holds document 01 in the other hand.
 pub mod Determined
 pub mod Meaning
 pub mod Acceptance
@@ -9,3 +10,6 @@ pub mod Edges
 pub mod Classes
 pub mod Lists
 pub mod Entries
+pub mod Examples
+pub mod Errors
+pub mod Tokens

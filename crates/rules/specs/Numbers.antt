@@ -8,19 +8,15 @@ use Rattle.rules.specs.declared.Checked.{Checked}
 use Rattle.rules.specs.declared.Checked.the-variants.{Accepted, Refused as NotAccepted}
 use Rattle.rules.specs.declared.Answered.{Answered}
 use Rattle.rules.specs.declared.Answered.the-variants.{Answers, Refused as NotAnswered}
+use Rattle.rules.specs.declared.Report.{Report}
 use Rattle.rules.specs.declared.Bounds.{Bounds}
 use Rattle.rules.specs.declared.Bounds.the-variants.{Part, Refused as NoPart}
 
 -- a number of the table and up to three values; what the table does not name is 0
-pub record Report : Type 0 where
-  pub number : ℕ
-  pub a : ℕ
-  pub b : ℕ
-  pub c : ℕ
-
 abbrev pub report : ℕ → ℕ → ℕ → ℕ → Report
 report number a b c = record { number = number; a = a; b = b; c = c }
 
+-- a refusal's number and values
 unfoldable pub ofRefusal : Refusal → Report
 ofRefusal Sizes = report 1 0 0 0
 ofRefusal LevelCount = report 2 0 0 0
@@ -46,6 +42,7 @@ unfoldable pub ofBuilt : Built → Report
 ofBuilt (Tables classes pairs entries) = report 0 classes pairs entries
 ofBuilt (NotBuilt r) = ofRefusal r
 
+-- 0 has no value
 unfoldable pub ofChecked : Checked → Report
 ofChecked Accepted = report 0 0 0 0
 ofChecked (NotAccepted r) = ofRefusal r

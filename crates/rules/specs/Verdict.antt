@@ -11,7 +11,6 @@ use Rattle.rules.specs.Query.{Query, atom, identity, diameter}
 use Rattle.rules.specs.Reading.{Reading, asks, fault}
 
 infixr 20 _orElse_
-
 pub data Verdict : Type 0 where
   good : Verdict
   refuse : Refusal → Verdict

@@ -67,7 +67,7 @@ module _ (n : ℕ) (f : ℕ → List ℕ → List ℕ) (size : (i : ℕ) (ls : L
 module _ (ρ : Rule) (g : Graph) where
   pub over-length : (i : ℕ) (ls : List ℕ) → length (levelOver ρ g i ls) ≡ g .items * g .items
   unfolding levelOver
-  over-length i ls = numbering-length (connectedAt g i) (agreeAt ρ g i (levelOf (g .items) ls)) (g .items * g .items)
+  over-length i ls = numbering-length _ _ (g .items * g .items)
 
   pub levels-size : (k : ℕ) → length (builtLevels ρ g k) ≡ k * (g .items * g .items)
   unfolding builtLevels

@@ -9,13 +9,9 @@ use lib.Dec.{eqb, leb, ltb}
 use lib.ListN.{length, getD}
 use Rattle.rules.specs.declared.Refusal.the-variants.{Sizes, LevelCount, EdgeCount, Edge, Room}
 use Rattle.rules.specs.Verdict.{good, sizes, levelCount, edgeCount, badEdge, firstBad, edgesFit, room}
-use Rattle.rules.proofs.Laws.Tests.{or-false-left, or-false-right}
+use Rattle.rules.proofs.Laws.Tests.{some-of, or-false-left, or-false-right}
 use Rattle.rules.proofs.Laws.Finite.{first-before}
 use Rattle.rules.proofs.Laws.Verdict.{when-good, good-when}
-
-some : (n : ℕ) → (n ≡ 0 → ⊥) → 0 < n
-some zero h = absurd (h refl)
-some (suc n) h = omega arith
 
 -- 1
 pub record SizesFit (items labels : ℕ) : Type 0 where
@@ -30,7 +26,7 @@ sizes-fit n l e =
     let b = or-false-right (ltb 128 n) (eqb l 0 || ltb 8 l) a in
     record {
       items-fit = ltb-false 128 n (or-false-left (ltb 128 n) (eqb l 0 || ltb 8 l) a);
-      labels-some = some l (eqb-false l 0 (or-false-left (eqb l 0) (ltb 8 l) b));
+      labels-some = some-of l (eqb-false l 0 (or-false-left (eqb l 0) (ltb 8 l) b));
       labels-fit = ltb-false 8 l (or-false-right (eqb l 0) (ltb 8 l) b);
     }
 
@@ -50,7 +46,7 @@ unfolding levelCount
 levels-fit k e =
     let a = when-good (eqb k 0 || ltb 4 k) LevelCount e in
     record {
-      some-level = some k (eqb-false k 0 (or-false-left (eqb k 0) (ltb 4 k) a));
+      some-level = some-of k (eqb-false k 0 (or-false-left (eqb k 0) (ltb 4 k) a));
       few-levels = ltb-false 4 k (or-false-right (eqb k 0) (ltb 4 k) a);
     }
 

@@ -14,6 +14,7 @@ use Rattle.rules.specs.declared.Token.the-variants.{Identity, Step, Join
 use Rattle.rules.specs.Query.{Query, atom, identity, step, join, both}
 use Rattle.rules.specs.Reading.{tokenOf, Reading, fault, asks, push, fold2, act, end, readFrom, readTokens}
 use Rattle.rules.specs.Published.{AtomFormed, WellFormed}
+use Rattle.rules.proofs.Laws.Tests.{some-of}
 
 -- all that wait are well formed
 data Formed (l : ℕ) : List Query → Type 0 where
@@ -38,13 +39,9 @@ token-formed : (l t : ℕ) → TokenFormed l (tokenOf l t)
 unfolding tokenOf TokenFormed AtomFormed
 token-formed l t = go (eqb t 0) (leb t (2 * l)) (eqb t 32) (eqb t 33) refl refl
   where
-    some : (t : ℕ) → (t ≡ 0 → ⊥) → 0 < t
-    some zero h = absurd (h refl)
-    some (suc t) h = omega arith
-
     go : (a b c d : Bool) → eqb t 0 ≡ a → leb t (2 * l) ≡ b → TokenFormed l (cond a Identity (cond b (Step t) (cond c Join (cond d Conjunction Unknown))))
     go true b c d ea eb = tt
-    go false true c d ea eb = (some t (eqb-false t 0 ea), leb-true t (2 * l) eb)
+    go false true c d ea eb = (some-of t (eqb-false t 0 ea), leb-true t (2 * l) eb)
     go false false true d ea eb = tt
     go false false false true ea eb = tt
     go false false false false ea eb = tt

@@ -47,4 +47,3 @@ module _ (g : Graph) where
       (λ t. let r = any-find (g .items) (λ m. leads g s v m && eqb m u) t in
       subst (λ (m : ℕ). leads g s v m ≡ true) (eqb-true (r .0) u (and-right (leads g s v (r .0)) (eqb (r .0) u) (r .2))) (and-left (leads g s v (r .0)) (eqb (r .0) u) (r .2)))
       (λ t. any-here (g .items) (λ m. leads g s v m && eqb m u) u h (and-intro _ _ t (eq-eqb u u refl)))
-
