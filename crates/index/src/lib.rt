@@ -4,6 +4,10 @@
 pub mod links;
 // the orders of refusals of the answers
 mod chains;
+// direct, stored and class answer
+pub mod answers;
+// the class numbers of a set of pairs
+mod classes;
 // the orders of refusals of build and check
 mod orders;
 // pairs of a class, and sequence lookup
