@@ -1,17 +1,15 @@
 // The index: its public entries, with no requirement on what is lent. Each contract is one record of the crate rules.
 
 // refusals 1 to 5, that several entries share
-pub mod links;
+mod links;
 // the orders of refusals of the answers
 mod chains;
-// direct, stored and class answer
-pub mod answers;
 // the class numbers of a set of pairs
 mod classes;
+// direct, stored and class answer
+mod answers;
 // the orders of refusals of build and check
 mod orders;
-// pairs of a class, and sequence lookup
-pub mod parts;
 // the level-k table among the levels
 mod top;
 // what build does once nothing refuses
@@ -19,4 +17,16 @@ mod building;
 // what check does once nothing refuses
 mod checking;
 // build and check
-pub mod tables;
+mod tables;
+// pairs of a class, and sequence lookup
+mod parts;
+
+pub use answers::class_answer;
+pub use answers::direct;
+pub use answers::stored;
+pub use parts::class_bounds;
+pub use parts::class_pairs;
+pub use parts::lookup;
+pub use parts::lookup_bounds;
+pub use tables::build;
+pub use tables::check;

@@ -38,7 +38,7 @@ fn print_run(name: &[u8], answer: Answered, answers: &[u32], area: &[u8]) {
 
 fn run_direct(items: u32, edges: &[u32], tokens: &[u8], answers: &mut [u32]) {
     let mut area = [7u8; 150];
-    let r = index::answers::direct(items, 2, edges, tokens, answers, &mut area);
+    let r = index::direct(items, 2, edges, tokens, answers, &mut area);
     print_run(b"direct ", r, answers, &area);
 }
 
@@ -51,14 +51,14 @@ fn direct(tokens: &[u8]) {
 fn run_stored(table: &[u32], entries: &[u32], tokens: &[u8]) {
     let mut answers = [99u32; 5];
     let mut area = [7u8; 150];
-    let r = index::answers::stored(4, 2, table, entries, tokens, &mut answers, &mut area);
+    let r = index::stored(4, 2, table, entries, tokens, &mut answers, &mut area);
     print_run(b"stored ", r, &answers, &area);
 }
 
 fn run_class(table: &[u32], entries: &[u32], tokens: &[u8]) {
     let mut answers = [99u32; 5];
     let mut area = [7u8; 150];
-    let r = index::answers::class_answer(4, 2, 2, table, entries, tokens, &mut answers, &mut area);
+    let r = index::class_answer(4, 2, 2, table, entries, tokens, &mut answers, &mut area);
     print_run(b"class ", r, &answers, &area);
 }
 

@@ -1,7 +1,7 @@
 // The examples P1 to P5, P11 and P12 of document 01 through build and check, and two tables that build does not make: one with finer
 // classes, which check accepts, and one with a coarser class, which it refuses. Each list is lent with a number more than it needs, and 7
 // stands there before; so does 9 in the area. A result is document 01's number and values.
-use index::tables;
+
 use libc::STDOUT_FILENO;
 use rules::Built;
 use rules::Report;
@@ -72,7 +72,7 @@ fn judge(
     entries: &[u32],
     area: &mut [u8],
 ) {
-    let checked = tables::check(items, 2, k, edges, levels, starts, order, entries, area);
+    let checked = index::check(items, 2, k, edges, levels, starts, order, entries, area);
     write_report(b"checked", rules::report_checked(checked));
     write_area(area);
 }
@@ -112,7 +112,7 @@ fn run(
     entries: &mut [u32],
     area: &mut [u8],
 ) {
-    let built = tables::build(items, 2, 2, edges, levels, starts, order, entries, area);
+    let built = index::build(items, 2, 2, edges, levels, starts, order, entries, area);
     show(built, levels, starts, order, entries, area);
     judge_built(items, edges, built, levels, starts, order, entries, area);
 }
