@@ -44,17 +44,22 @@ fn check_lists(
 {
     let found = match_lists(table, n, starts, order, area);
     let first = found.starts;
-    if differ(first, found.classes + 1, starts.len()) {
-        return Checked::Refused(Refusal::ListFault(1, first as u32));
+    let start_numbers = found.classes + 1;
+    if differ(first, start_numbers, starts.len()) {
+        let index = first as u32;
+        return Checked::Refused(Refusal::ListFault(1, index));
     }
     let second = found.order;
     if differ(second, found.pairs, order.len()) {
-        return Checked::Refused(Refusal::ListFault(2, second as u32));
+        let index = second as u32;
+        return Checked::Refused(Refusal::ListFault(2, index));
     }
     let progress = match_entries(edges, labels, n, k, table, area, entries);
     let third = progress.met;
-    if differ(third, 2 * progress.count, entries.len()) {
-        return Checked::Refused(Refusal::EntryFault(third as u32));
+    let entry_numbers = 2 * progress.count;
+    if differ(third, entry_numbers, entries.len()) {
+        let index = third as u32;
+        return Checked::Refused(Refusal::EntryFault(index));
     }
     Checked::Accepted
 }

@@ -8,7 +8,25 @@ mod chains;
 mod classes;
 // direct, stored and class answer
 mod answers;
+// the orders of refusals of build and check
+mod orders;
+// the level-k table among the levels
+mod top;
+// what build does once nothing refuses
+mod building;
+// what check does once nothing refuses
+mod checking;
+// build and check
+mod tables;
+// pairs of a class, and sequence lookup
+mod parts;
 
 pub use answers::class_answer;
 pub use answers::direct;
 pub use answers::stored;
+pub use parts::class_bounds;
+pub use parts::class_pairs;
+pub use parts::lookup;
+pub use parts::lookup_bounds;
+pub use tables::build;
+pub use tables::check;

@@ -47,7 +47,7 @@ fn part_of(list: &[u32], bounds: Bounds) -> &[u32]
     ensures { λ r. ⌜ now r ≡ partOf (now (list .entry)) bounds ⌝ }
 {
     match bounds {
-        Bounds::Part(from, to) => between(list, from, to),
+        Bounds::Part(first, end) => between(list, first, end),
         Bounds::Refused(_) => &list[..0],
     }
 }
@@ -102,7 +102,9 @@ fn run_bounds(entries: &[u32], code: u32) -> Bounds
         return Bounds::Part(0, 0);
     }
     let to = runs::run_end(entries, code, from);
-    Bounds::Part(2 * from, 2 * to)
+    let first = 2 * from;
+    let end = 2 * to;
+    Bounds::Part(first, end)
 }
 
 // Where the entries of a sequence of symbols stand in the entry list, or 12 or 8.

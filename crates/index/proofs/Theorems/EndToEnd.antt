@@ -34,19 +34,13 @@ use Rattle.rules.proofs.Theorems.AllOrNone.{all-or-none}
 use Rattle.rules.proofs.Theorems.Builder.{builder-is-accepted}
 use Rattle.rules.proofs.Theorems.Determined.{build-end, answer-end}
 use Rattle.rules.proofs.Theorems.Stored.{stored-is-direct}
+use Rattle.index.specs.Calls.{directCall, storedCall}
+use Rattle.index.specs.Tables.{indexOf}
 
 -- the tables that build left, the lists cut to the counts that it returned
 unfoldable pub cut : BuildCall → BuildEnd → ℕ → ℕ → ℕ → Index
 cut c e classes pairs entries =
-    record {
-      items = c .items;
-      labels = c .labels;
-      k = c .k;
-      levels = e .levels;
-      starts = take (suc classes) (e .starts);
-      order = take pairs (e .order);
-      entries = take (2 * entries) (e .entries);
-    }
+    indexOf (c .items) (c .labels) (c .k) (e .levels) (take (suc classes) (e .starts)) (take pairs (e .order)) (take (2 * entries) (e .entries))
 
 -- check is called with them, over the edge table of the build
 unfoldable pub checkOf : BuildCall → BuildEnd → ℕ → ℕ → ℕ → List ℕ → CheckCall
@@ -54,20 +48,10 @@ checkOf c e classes pairs entries area = record { edges = c .edges; index = cut 
 
 -- an answer from the edge table of a check, and one from its tables
 unfoldable pub fromEdges : CheckCall → List ℕ → List ℕ → List ℕ → DirectCall
-fromEdges c tokens answers area =
-    record { items = c .index .items; labels = c .index .labels; edges = c .edges; tokens = tokens; answers = answers; area = area }
+fromEdges c tokens answers area = directCall (c .index .items) (c .index .labels) (c .edges) tokens answers area
 
 unfoldable pub fromTables : CheckCall → List ℕ → List ℕ → List ℕ → List ℕ → StoredCall
-fromTables c table tokens answers area =
-    record {
-      items = c .index .items;
-      labels = c .index .labels;
-      table = table;
-      entries = c .index .entries;
-      tokens = tokens;
-      answers = answers;
-      area = area;
-    }
+fromTables c table tokens answers area = storedCall (c .index .items) (c .index .labels) table (c .index .entries) tokens answers area
 
 module _ (c : BuildCall) (e : BuildEnd) (built : Builds c e) (classes pairs entries : ℕ) (done : e .result ≡ Tables classes pairs entries) where
   accepted-outcome : (area : List ℕ) → 9 * (c .items * c .items) ≤ length area → check (checkOf c e classes pairs entries area) .result ≡ Accepted

@@ -11,8 +11,8 @@ use Rattle.index.proofs.checking.check_lists.Tie as tie
 match-lists-requires : tie.Need-match-lists-requires
 match-lists-requires c κs = search needs
 
-add-differ : tie.Need-add-differ
-add-differ c =
+add-start-numbers : tie.Need-add-start-numbers
+add-start-numbers c =
     let p = c .before .before .before .before .before .before .before .before .before .before .before .pre in
     let m = c .before .before .before .match-lists .ensures in
     omega (arith, few-classes _ _ _ _ _ _ p _ _ _ _ _ _ (m .1))
@@ -20,8 +20,8 @@ add-differ c =
 differ-requires : tie.Need-differ-requires
 differ-requires c κs = search needs
 
-cast-t20 : tie.Need-cast-t20
-cast-t20 c =
+cast-index : tie.Need-cast-index
+cast-index c =
     let p = c .before .before .before .before .before .before .before .before .before .before .before .before .before .pre in
     let m = c .before .before .before .before .before .match-lists .ensures in
     omega (arith, first-small _ _ _ _ _ _ p _ _ _ _ _ _ (m .1))
@@ -39,8 +39,8 @@ returns c =
 differ-requires-2 : tie.Need-differ-requires-2
 differ-requires-2 c κs = search needs
 
-cast-t23 : tie.Need-cast-t23
-cast-t23 c =
+cast-index-2 : tie.Need-cast-index-2
+cast-index-2 c =
     let p = c .before .before .before .before .before .before .before .before .before .before .before .before .before .before .before .pre in
     let m = c .before .before .before .before .before .before .before .match-lists .ensures in
     omega (arith, second-small _ _ _ _ _ _ p _ _ _ _ _ _ (m .1))
@@ -61,15 +61,15 @@ returns-2 c =
 match-entries-requires : tie.Need-match-entries-requires
 match-entries-requires c κs = search needs
 
-mul-differ : tie.Need-mul-differ
-mul-differ c =
+mul-entry-numbers : tie.Need-mul-entry-numbers
+mul-entry-numbers c =
     omega (arith, many-small _ _ _ _ _ _ (c .before .before .before .before .before .before .before .before .before .before .before .before .before .before .before .before .before .before .before .before .pre) _ _ _ (c .before .before .before .match-entries .ensures .1))
 
 differ-requires-3 : tie.Need-differ-requires-3
 differ-requires-3 c κs = search needs
 
-cast-t28 : tie.Need-cast-t28
-cast-t28 c =
+cast-index-3 : tie.Need-cast-index-3
+cast-index-3 c =
     omega (arith, third-small _ _ _ _ _ _ (c .before .before .before .before .before .before .before .before .before .before .before .before .before .before .before .before .before .before .before .before .before .before .pre) _ _ _ (c .before .before .before .before .before .match-entries .ensures .1))
 
 same-length-3 : tie.Need-same-length-3
@@ -107,19 +107,19 @@ check-lists-spec =
     tie.close
     (tie.spec
     match-lists-requires
-    add-differ
+    add-start-numbers
     differ-requires
-    cast-t20
+    cast-index
     same-length
     returns
     differ-requires-2
-    cast-t23
+    cast-index-2
     same-length-2
     returns-2
     match-entries-requires
-    mul-differ
+    mul-entry-numbers
     differ-requires-3
-    cast-t28
+    cast-index-3
     same-length-3
     returns-3
     same-length-4
