@@ -1,0 +1,27 @@
+// What `answer` does with its input: a line is read as a frame, the state goes on, and a text is printed.
+
+// The three numbers of a frame 01 or 02, or none.
+pub enum Fields {
+    Three(u32, u32, u32),
+    Wrong,
+}
+
+// What a line says.
+pub enum Frame {
+    // 01: items, labels and k
+    Sizes(u32, u32, u32),
+    // 02: source, target and label
+    Edge(u32, u32, u32),
+    // 03: tokens, which stand in the line
+    Query,
+    // any other line
+    Faulty,
+}
+
+// How far the run has come.
+pub enum Phase {
+    Opening,
+    Gathering,
+    Answering,
+    Stopped,
+}
