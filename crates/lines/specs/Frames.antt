@@ -1,5 +1,5 @@
 -- What a line says: 01 V 4 digits, L 2, k 2; 02 source 4, target 4, label 2; 03 tokens, 2 digits each. Any other line is a bad frame.
-use Prim.Native.Nat.{ℕ, pred, _+_, _*_, _/_, _%_}
+use Prim.Native.Nat.{ℕ, _+_, _-_, _*_, _/_, _%_}
 use mathlib.Core.List.{List}
 use mathlib.Core.Bool.{Bool, true, false, _&&_, cond}
 use lib.Dec.{eqb}
@@ -44,7 +44,7 @@ valueOr0 Bad = 0
 
 -- the tokens behind 03: how many two digits there are, whether each is a number, and the numbers
 unfoldable pub tokenCount : List ℕ → ℕ
-tokenCount line = pred (length line / 2)
+tokenCount line = length line / 2 - 1
 
 unfoldable pub isToken : List ℕ → ℕ → Bool
 isToken line i = isNumber (numberAt line (2 + 2 * i) 2)

@@ -1,4 +1,6 @@
-// What `answer` does with its input: a line is read as a frame, the state goes on, and a text is printed.
+// What `answer` does with its input: a line is read as a frame, the run goes on by one turn, and a text is printed.
+pub mod frames; // what a line says
+pub mod texts; // the lines of the output
 
 // The three numbers of a frame 01 or 02, or none.
 pub enum Fields {
