@@ -1,3 +1,4 @@
 pub mod Frames
 pub mod Texts
 pub mod Stages
+pub mod Asking

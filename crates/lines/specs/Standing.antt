@@ -1,5 +1,5 @@
 -- What the code's state and the lent lists stand for, and what the contracts say of a turn and of a step of the machine.
-use Prim.Native.Nat.{ℕ, _%_, _≤_, _<_}
+use Prim.Native.Nat.{ℕ, _+_, _%_, _≤_, _<_}
 use mathlib.Core.Path.{_≡_}
 use mathlib.Core.List.{List}
 use lib.ListN.{length, take}
@@ -65,3 +65,19 @@ pub record Lent (edges levels starts order entries area answers out : List ℕ) 
   pub area-lent : length area ≡ 9216
   pub answers-lent : length answers ≡ 1024
   pub out-lent : length out ≡ 4118
+
+-- so many bytes of the output, from a place on, are the text
+pub record Written (text : List ℕ) (many at : ℕ) (old new : List ℕ) : Type 0 where
+  pub size : many ≡ length text
+  pub bytes : new ≡ sets old at text
+
+-- what a query is answered from: the level-k table and the entries lie within the lent lists, and the answer in the output
+pub record Ready (p : Progress) (levels entries area answers : List ℕ) (at : ℕ) (out : List ℕ) : Type 0 where
+  pub fits : Fits p
+  pub some-level : 0 < p .k
+  pub few-levels : p .k ≤ 4
+  pub levels-lent : length levels ≡ 4096
+  pub entries-lent : length entries ≡ 4096
+  pub area-lent : length area ≡ 9216
+  pub answers-lent : length answers ≡ 1024
+  pub room : at + 4103 ≤ length out

@@ -1,4 +1,5 @@
 // What `answer` does with its input: a line is read as a frame, the run goes on by one turn, and a text is printed.
+pub mod asking; // a query, answered from the stored tables
 pub mod frames; // what a line says
 pub mod stages; // what a line that is no query does
 pub mod texts; // the lines of the output
