@@ -23,7 +23,7 @@ fn unread(r: Read) -> Link
 }
 
 // How many pairs the items have.
-fn pairs(items: u32) -> usize
+pub fn pairs(items: u32) -> usize
     requires { ⌜ items ≤ 128 ⌝ }
     ensures { λ r. ⌜ (r ≡ items * items) × (r ≤ 16384) ⌝ }
 {

@@ -6,3 +6,15 @@ pub mod links;
 mod chains;
 // direct, stored and class answer
 pub mod answers;
+// the orders of refusals of build and check
+mod orders;
+// pairs of a class, and sequence lookup
+pub mod parts;
+// the level-k table among the levels
+mod top;
+// what build does once nothing refuses
+mod building;
+// what check does once nothing refuses
+mod checking;
+// build and check
+pub mod tables;

@@ -1,0 +1,12 @@
+use borrow.Author.Tests.{ne-eqb, eq-eqb}
+use Rattle.index.proofs.checking.differ.Statement.{statement}
+use Rattle.index.proofs.checking.differ.Tie as tie
+
+returns : tie.Need-returns
+returns c = rw (ne-eqb _ _ (c .if1 .taken))
+
+returns-2 : tie.Need-returns-2
+returns-2 c = rw (eq-eqb _ _ (c .if1 .left))
+
+pub differ-spec : {M : Type 1} → statement M
+differ-spec = tie.close (tie.spec returns returns-2)

@@ -1,0 +1,99 @@
+-- The calls and ends of build and check, from what is lent, and what their steps ask and leave.
+use Prim.Native.Nat.{ℕ, _*_, _/_, _≤_, _<_}
+use mathlib.Core.Path.{_≡_}
+use mathlib.Core.List.{List}
+use mathlib.Core.Bool.{Bool, cond}
+use lib.Dec.{leb}
+use lib.ListN.{length}
+use Rattle.rules.specs.declared.Refusal.the-variants.{EntryRoom, ListFault, EntryFault}
+use Rattle.rules.specs.declared.Built.{Built}
+use Rattle.rules.specs.declared.Built.the-variants.{Tables, Refused}
+use Rattle.rules.specs.declared.Checked.{Checked}
+use Rattle.rules.specs.Graph.{Graph}
+use Rattle.rules.specs.Levels.{maxOf}
+use Rattle.rules.specs.Lists.{startsOf, orderOf, entriesOf}
+use Rattle.rules.specs.Verdict.{Verdict, _orElse_}
+use Rattle.rules.specs.Accept.{Index, sameList}
+use Rattle.rules.specs.Outcomes.{front, zeroed, BuildCall, BuildEnd, CheckCall, CheckEnd}
+use Rattle.lists.specs.Sort.{Contiguous}
+use Rattle.lists.specs.Relations.{EdgesIn}
+
+abbrev pub buildCall : ℕ → ℕ → ℕ → List ℕ → List ℕ → List ℕ → List ℕ → List ℕ → List ℕ → BuildCall
+buildCall items labels k edges levels starts order entries area =
+    record {
+      items = items;
+      labels = labels;
+      k = k;
+      edges = edges;
+      levels = levels;
+      starts = starts;
+      order = order;
+      entries = entries;
+      area = area;
+    }
+
+abbrev pub buildEnd : Built → List ℕ → List ℕ → List ℕ → List ℕ → List ℕ → BuildEnd
+buildEnd result levels starts order entries area =
+    record { result = result; levels = levels; starts = starts; order = order; entries = entries; area = area }
+
+abbrev pub indexOf : ℕ → ℕ → ℕ → List ℕ → List ℕ → List ℕ → List ℕ → Index
+indexOf items labels k levels starts order entries =
+    record { items = items; labels = labels; k = k; levels = levels; starts = starts; order = order; entries = entries }
+
+abbrev pub checkCall : ℕ → ℕ → ℕ → List ℕ → List ℕ → List ℕ → List ℕ → List ℕ → List ℕ → CheckCall
+checkCall items labels k edges levels starts order entries area =
+    record { edges = edges; index = indexOf items labels k levels starts order entries; area = area }
+
+abbrev pub checkEnd : Checked → List ℕ → CheckEnd
+checkEnd result area = record { result = result; area = area }
+
+-- a build that is to end as o
+pub record EndsAs (o e : BuildEnd) : Type 0 where
+  pub result : e .result ≡ o .result
+  pub levels : e .levels ≡ o .levels
+  pub starts : e .starts ≡ o .starts
+  pub order : e .order ≡ o .order
+  pub entries : e .entries ≡ o .entries
+  pub area : e .area ≡ o .area
+
+-- k levels of n items stand among the levels
+pub record Standing (n k : ℕ) (levels : List ℕ) : Type 0 where
+  pub few-items : n ≤ 128
+  pub some-level : 0 < k
+  pub few-levels : k ≤ 4
+  pub room : k * (n * n) ≤ length levels
+
+-- the lists of a table of n items can be compared with stored ones
+pub record ListsStored (n labels k : ℕ) (edges t area : List ℕ) : Type 0 where
+  pub few-items : n ≤ 128
+  pub few-labels : labels ≤ 8
+  pub few-levels : k ≤ 4
+  pub square : length t ≡ n * n
+  pub numbered : Contiguous t
+  pub inside : EdgesIn edges n
+  pub area-room : 9 * (n * n) ≤ length area
+
+-- they can be written: it has so many classes, and there is room for the longest lists
+pub record ListsReady (n labels k classes : ℕ) (edges t starts order area : List ℕ) : Type 0 where
+  pub stored : ListsStored n labels k edges t area
+  pub largest : classes ≡ maxOf t
+  pub starts-room : n * n < length starts
+  pub order-room : n * n ≤ length order
+
+-- the entries of a table have room
+abbrev pub entriesFit : Graph → ℕ → List ℕ → List ℕ → Bool
+entriesFit g k t entries = leb (length (entriesOf g k t) / 2) (length entries / 2)
+
+-- the lists of a table are written; 6 leaves the entries, and all else as for 0
+pub record ListsWritten (n : ℕ) (g : Graph) (k : ℕ) (t starts order entries area : List ℕ) (r : Built) (starts′ order′ entries′ area′ : List ℕ) : Type 0 where
+  pub result : r
+      ≡ cond (entriesFit g k t entries) (Tables (maxOf t) (length (orderOf t)) (length (entriesOf g k t) / 2)) (Refused (EntryRoom (length (entriesOf g k t) / 2)))
+  pub starts-are : starts′ ≡ front (startsOf t) starts
+  pub order-are : order′ ≡ front (orderOf t) order
+  pub entries-are : entries′ ≡ cond (entriesFit g k t entries) (front (entriesOf g k t) entries) entries
+  pub area-is : area′ ≡ zeroed n area
+
+-- 16 for starts, then for order, then 17
+unfoldable pub listsVerdict : Graph → ℕ → List ℕ → List ℕ → List ℕ → List ℕ → Verdict
+listsVerdict g k t starts order entries =
+    sameList (startsOf t) starts (ListFault 1) orElse sameList (orderOf t) order (ListFault 2) orElse sameList (entriesOf g k t) entries EntryFault

@@ -1,0 +1,12 @@
+pub mod Bits
+pub mod Marks
+pub mod Tables
+pub mod Areas
+pub mod Agreement
+pub mod Reach
+pub mod Numbers
+pub mod Level
+pub mod Right
+pub mod Same
+pub mod Stack
+pub mod Built

@@ -1,0 +1,91 @@
+-- The tests of agreement, one after the other, as the code makes them.
+use Prim.Native.Nat.{ℕ, _*_, _/_, _%_, _<_}
+use mathlib.Core.Path.{_≡_, refl, sym, _∙_}
+use mathlib.Core.List.{List}
+use mathlib.Core.Bool.{Bool, true, false, not, _&&_}
+use native.Mathlib.Omega.{arith}
+use native.Mathlib.Nat.{mul-le-mul-right}
+use borrow.Author.Tests.{not-true, not-false}
+use Rattle.rules.specs.Finite.{allBelow}
+use Rattle.rules.specs.Graph.{Graph}
+use Rattle.rules.specs.Rule.{Rule, rule}
+use Rattle.rules.specs.Levels.{sameEnds, sameSteps, twins, splitOk, agree, agreeAt}
+use Rattle.rules.proofs.Laws.Tests.{and-left, and-right, and-intro, not-true-of, not-both}
+use Rattle.rules.proofs.Laws.Loops.{all-not-at}
+use Rattle.levels.specs.Needs.{Stands}
+
+module _ (ρ : Rule) (g : Graph) (i : ℕ) (T : ℕ → List ℕ) (v u x y : ℕ) where
+  abbrev tests : Bool
+  tests = sameEnds g v u x y && sameSteps g v u x y && allBelow (ρ .many i) (splitOk ρ g i T v u x y)
+
+  not-agree : (agree ρ g i T v u x y ≡ true → ⊥) → false ≡ agree ρ g i T v u x y
+  not-agree h = sym (not-true-of (agree ρ g i T v u x y) h)
+
+  pub agree-ends : {r : Bool} → r ≡ sameEnds g v u x y → not r ≡ true → false ≡ agree ρ g i T v u x y
+  unfolding agree
+  agree-ends {r} h k =
+      not-agree
+      (λ t. not-both (sameEnds g v u x y)
+      (and-left (sameEnds g v u x y) (sameSteps g v u x y) (and-left (sameEnds g v u x y && sameSteps g v u x y) (allBelow (ρ .many i) (splitOk ρ g i T v u x y)) t))
+      (sym h ∙ not-true r k))
+
+  pub agree-steps : {r : Bool} → r ≡ sameSteps g v u x y → not r ≡ true → false ≡ agree ρ g i T v u x y
+  unfolding agree
+  agree-steps {r} h k =
+      not-agree
+      (λ t. not-both (sameSteps g v u x y)
+      (and-right (sameEnds g v u x y) (sameSteps g v u x y) (and-left (sameEnds g v u x y && sameSteps g v u x y) (allBelow (ρ .many i) (splitOk ρ g i T v u x y)) t))
+      (sym h ∙ not-true r k))
+
+  -- a split that fails
+  split-fails : (c : ℕ) → c < ρ .many i → splitOk ρ g i T v u x y c ≡ false → false ≡ agree ρ g i T v u x y
+  unfolding agree
+  split-fails c l k =
+      let all = allBelow (ρ .many i) (splitOk ρ g i T v u x y) in
+      not-agree (λ t. not-both all (and-right (sameEnds g v u x y && sameSteps g v u x y) all t) (all-not-at (splitOk ρ g i T v u x y) (ρ .many i) c l k))
+
+  module _ (c : ℕ) {count a b : ℕ} (many : count ≡ ρ .many i) (ea : a ≡ ρ .first i c) (eb : b ≡ ρ .second i c) where
+    abbrev there : Bool
+    there = twins (g .items) (T (ρ .first i c)) (T (ρ .second i c)) v u x y
+
+    abbrev back : Bool
+    back = twins (g .items) (T (ρ .first i c)) (T (ρ .second i c)) x y v u
+
+    pub agree-there : c < count → {r : Bool} → r ≡ twins (g .items) (T a) (T b) v u x y → not r ≡ true → false ≡ agree ρ g i T v u x y
+    unfolding splitOk
+    agree-there l {r} h k =
+        split-fails c (rw many at l) (not-true-of (there && back) (λ t. not-both there (and-left there back t) (rw (← ea, ← eb) (sym h ∙ not-true r k))))
+
+    pub agree-back : c < count → {r : Bool} → r ≡ twins (g .items) (T a) (T b) x y v u → not r ≡ true → false ≡ agree ρ g i T v u x y
+    unfolding splitOk
+    agree-back l {r} h k =
+        split-fails c (rw many at l) (not-true-of (there && back) (λ t. not-both back (and-right there back t) (rw (← ea, ← eb) (sym h ∙ not-true r k))))
+
+    pub split-holds : {r s : Bool} → r ≡ twins (g .items) (T a) (T b) v u x y → not r ≡ false → s ≡ twins (g .items) (T a) (T b) x y v u → not s ≡ false
+        → splitOk ρ g i T v u x y c ≡ true
+    unfolding splitOk
+    split-holds {r} {s} h k h' k' =
+        and-intro there back (rw (← ea, ← eb) (sym h ∙ not-false r k)) (rw (← ea, ← eb) (sym h' ∙ not-false s k'))
+
+  pub agree-all : {r s : Bool} → r ≡ sameEnds g v u x y → not r ≡ false → s ≡ sameSteps g v u x y → not s ≡ false
+      → allBelow (ρ .many i) (splitOk ρ g i T v u x y) ≡ true → true ≡ agree ρ g i T v u x y
+  unfolding agree
+  agree-all {r} {s} h k h' k' all =
+      sym (and-intro (sameEnds g v u x y && sameSteps g v u x y) _
+      (and-intro (sameEnds g v u x y) (sameSteps g v u x y) (sym h ∙ not-false r k) (sym h' ∙ not-false s k')) all)
+
+-- the levels of both halves stand
+module _ (n i : ℕ) (levels : List ℕ) (st : Stands n levels i) (c : ℕ) {count : ℕ} (many : count ≡ rule .many i) (l : c < count) where
+  lower : (a : ℕ) → 0 < a → a < i → Stands n levels a
+  lower a p h = record { some = p; room = omega (arith, mul-le-mul-right {m = a} {n = i} (n * n) (omega arith), st .room) }
+
+  pub first-stands : {a : ℕ} → a ≡ rule .first i c → Stands n levels a
+  first-stands {a} e = let l' = rw many at l in lower a (rw e (rule .first-some i c l')) (rw e (rule .first-below i c l'))
+
+  pub second-stands : {a : ℕ} → a ≡ rule .second i c → Stands n levels a
+  second-stands {a} e = let l' = rw many at l in lower a (rw e (rule .second-some i c l')) (rw e (rule .second-below i c l'))
+
+-- agreement at two positions
+pub at-is : (ρ : Rule) (g : Graph) (i : ℕ) (T : ℕ → List ℕ) (p q : ℕ) → agree ρ g i T (p / g .items) (p % g .items) (q / g .items) (q % g .items) ≡ agreeAt ρ g i T p q
+unfolding agreeAt
+at-is ρ g i T p q = refl

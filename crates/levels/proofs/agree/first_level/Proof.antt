@@ -1,0 +1,13 @@
+use Rattle.levels.proofs.Laws.Tables.{rule-first}
+use borrow.Author.Needs.{needs}
+use Rattle.levels.proofs.agree.first_level.Statement.{statement}
+use Rattle.levels.proofs.agree.first_level.Tie as tie
+
+sub-result : tie.Need-sub-result
+sub-result c = search needs
+
+returns : tie.Need-returns
+returns c = rule-first _ _ (c .pre)
+
+pub first-level-spec : {M : Type 1} → statement M
+first-level-spec = tie.close (tie.spec sub-result returns)

@@ -1,0 +1,13 @@
+use Rattle.levels.proofs.Laws.Tables.{rule-second}
+use borrow.Author.Needs.{needs}
+use Rattle.levels.proofs.agree.second_level.Statement.{statement}
+use Rattle.levels.proofs.agree.second_level.Tie as tie
+
+sub-result : tie.Need-sub-result
+sub-result c = search needs
+
+returns : tie.Need-returns
+returns c = rule-second _ _ (c .pre)
+
+pub second-level-spec : {M : Type 1} → statement M
+second-level-spec = tie.close (tie.spec sub-result returns)

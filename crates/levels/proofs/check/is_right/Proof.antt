@@ -1,0 +1,125 @@
+use Prim.Native.Nat.{_*_}
+use mathlib.Core.Path.{sym, ap, _∙_}
+use native.Mathlib.Omega.{arith}
+use Rattle.rules.specs.Rule.{rule}
+use Rattle.rules.specs.Levels.{levelOf, agreeAt}
+use Rattle.rules.proofs.Laws.Places.{some-items, row-lt, column-lt, square-le}
+use Rattle.rules.proofs.Laws.Accepted.{first-of-lt}
+use Rattle.levels.specs.Marks.{markedGraph}
+use Rattle.levels.proofs.Laws.Tables.{base-next, place-get}
+use Rattle.levels.proofs.Laws.Reach.{byte-set, byte-clear}
+use Rattle.levels.proofs.Laws.Agreement.{at-is}
+use Rattle.levels.proofs.Laws.Right.{right-out, right-zero, right-high, right-agree}
+use borrow.Author.Needs.{needs}
+use Rattle.levels.proofs.check.is_right.Statement.{statement}
+use Rattle.levels.proofs.check.is_right.Tie as tie
+
+sub-c : tie.Need-sub-c
+sub-c c = search needs
+
+mul-c : tie.Need-mul-c
+mul-c c = search needs
+
+mul-c-2 : tie.Need-mul-c-2
+mul-c-2 c = let a = c .before .before in omega (arith, base-next (a .args .n) (a .args .i) (a .pre .0 .some))
+
+add-c : tie.Need-add-c
+add-c c = let a = c .before .before in omega (arith, base-next (a .args .n) (a .args .i) (a .pre .0 .some), a .pre .2 .inside)
+
+mul-c-3 : tie.Need-mul-c-3
+mul-c-3 c = let a = c .before .before in omega (arith, base-next (a .args .n) (a .args .i) (a .pre .0 .some), a .pre .2 .inside)
+
+shared-slice-read-c : tie.Need-shared-slice-read-c
+shared-slice-read-c c = let a = c .before .before .before in omega (arith, base-next (a .args .n) (a .args .i) (a .pre .0 .some), a .pre .2 .inside)
+
+mul-if1 : tie.Need-mul-if1
+mul-if1 c = search needs
+
+add-if1 : tie.Need-add-if1
+add-if1 c = search needs
+
+shared-slice-read-if1 : tie.Need-shared-slice-read-if1
+shared-slice-read-if1 c = search needs
+
+returns : tie.Need-returns
+returns c =
+    let a = c .before .before .before .before .before in
+    right-out _ _ _ _ _ (sym (place-get _ _ _ _ (a .pre .0 .some) (a .pre .2 .inside))) (byte-clear _ (a .pre .1 .byte-at (a .args .p) (a .pre .2 .inside)) (c .if1 .taken))
+
+returns-2 : tie.Need-returns-2
+returns-2 c =
+    let e = c .before in
+    let a = e .before .before .before .before .before in
+    right-zero _ _ _ _ _ (sym (place-get _ _ _ _ (a .pre .0 .some) (a .pre .2 .inside))) (byte-set _ (a .pre .1 .byte-at (a .args .p) (a .pre .2 .inside)) (e .if1 .left)) (c .if2 .taken)
+
+add-if3 : tie.Need-add-if3
+add-if3 c = let a = c .before .before .before .before .before .before in omega (arith, square-le (a .pre .0 .few), a .pre .2 .small, a .pre .2 .inside)
+
+returns-3 : tie.Need-returns-3
+returns-3 c =
+    let e = c .before .before in
+    let a = e .before .before .before .before .before in
+    right-high _ _ _ _ _ (sym (place-get _ _ _ _ (a .pre .0 .some) (a .pre .2 .inside))) (byte-set _ (a .pre .1 .byte-at (a .args .p) (a .pre .2 .inside)) (e .if1 .left))
+    (c .before .if2 .left) (omega (arith, c .if3 .taken, a .pre .2 .largest))
+
+first-of-requires : tie.Need-first-of-requires
+first-of-requires c κs = search needs
+
+div-agree : tie.Need-div-agree
+div-agree c = some-items _ _ (c .before .before .before .before .before .before .before .before .pre .2 .inside)
+
+rem-agree : tie.Need-rem-agree
+rem-agree c = some-items _ _ (c .before .before .before .before .before .before .before .before .pre .2 .inside)
+
+div-agree-2 : tie.Need-div-agree-2
+div-agree-2 c = some-items _ _ (c .before .before .before .before .before .before .before .before .pre .2 .inside)
+
+rem-agree-2 : tie.Need-rem-agree-2
+rem-agree-2 c = some-items _ _ (c .before .before .before .before .before .before .before .before .pre .2 .inside)
+
+agree-requires : tie.Need-agree-requires
+agree-requires c κs =
+    let a = c .before .before .before .before .before .before .before .before in
+    let h = rw (← c .first-of .ensures) at (first-of-lt (a .args .n * a .args .n) (levelOf (a .args .n) (a .args .levels .now) (a .args .i)) (a .args .p) (a .pre .2 .inside)) in (
+      record { some = a .pre .0 .some; room = a .pre .0 .room },
+      record { room = omega arith },
+      record { first = row-lt _ _ (a .pre .2 .inside); second = column-lt _ _ (a .pre .2 .inside) },
+      record { first = row-lt _ _ h; second = column-lt _ _ h },
+    )
+
+returns-4 : tie.Need-returns-4
+returns-4 c =
+    let f = c .before in
+    let e2 = f .before .before in
+    let e = e2 .before in
+    let a = e .before .before .before .before .before in
+    let g = markedGraph (a .args .n) (a .args .area .now) in
+    let T = levelOf (a .args .n) (a .args .levels .now) in
+    right-agree _ _ _ _ _ (sym (place-get _ _ _ _ (a .pre .0 .some) (a .pre .2 .inside))) (byte-set _ (a .pre .1 .byte-at (a .args .p) (a .pre .2 .inside)) (e .if1 .left))
+    (e2 .if2 .left) (omega (arith, f .before .if3 .left, a .pre .2 .largest))
+    (c .agree .ensures ∙ at-is _ _ _ _ _ _ ∙ ap (agreeAt rule g (a .args .i) T (a .args .p)) (f .first-of .ensures))
+
+pub is-right-spec : {M : Type 1} → statement M
+is-right-spec =
+    tie.close
+    (tie.spec
+    sub-c
+    mul-c
+    mul-c-2
+    add-c
+    mul-c-3
+    shared-slice-read-c
+    mul-if1
+    add-if1
+    shared-slice-read-if1
+    returns
+    returns-2
+    add-if3
+    returns-3
+    first-of-requires
+    div-agree
+    rem-agree
+    div-agree-2
+    rem-agree-2
+    agree-requires
+    returns-4)

@@ -1,0 +1,116 @@
+use lib.ListN.{length}
+use Prim.Native.Nat.{_+_, _*_, _-_, _≤_, max}
+use mathlib.Core.Path.{_≡_, refl, sym, _∙_}
+use mathlib.Core.Logic.{⊎-elim}
+use native.Mathlib.Omega.{arith}
+use Rattle.rules.specs.Levels.{numbering, maxOf, levelOver}
+use Rattle.rules.specs.Writing.{put}
+use Rattle.rules.proofs.Laws.Put.{put-none}
+use Rattle.rules.proofs.Laws.Places.{square-le}
+use Rattle.levels.specs.Needs.{isIn, alike, base}
+use Rattle.levels.proofs.Laws.Tables.{base-next}
+use Rattle.levels.proofs.Laws.Level.{ends, same-size, still-ready, begun, write-next, max-next, next-small}
+use Rattle.levels.proofs.number.number_positions.Statement.{statement}
+use Rattle.levels.proofs.number.number_positions.Tie as tie
+
+abbrev Inv-loop : tie.InvT-loop
+Inv-loop n i levels₀ area start top₀ p₀ levels top p = (p ≤ n * n) × (top ≤ p) × (top ≡ maxOf (numbering (isIn n i area) (alike n i levels₀ area) p)) × (levels ≡ put levels₀ (base n i) (numbering (isIn n i area) (alike n i levels₀ area) p))
+
+abbrev μ-loop : tie.MeasureT-loop
+μ-loop n i levels₀ area start top₀ p₀ levels top p = n * n - p
+
+sub-start : tie.Need-sub-start Inv-loop μ-loop
+sub-start c = omega arith
+
+mul-start : tie.Need-mul-start Inv-loop μ-loop
+mul-start c = let a = c .before .before in omega (arith, base-next (a .args .n) (a .args .i) (a .pre .0 .some))
+
+mul-start-2 : tie.Need-mul-start-2 Inv-loop μ-loop
+mul-start-2 c = let a = c .before .before in omega (arith, base-next (a .args .n) (a .args .i) (a .pre .0 .some))
+
+kept-size : (c : tie.At-loop Inv-loop μ-loop) → length (c .loop .levels) ≡ length (c .before .before .before .args .levels .now)
+kept-size c = same-size _ _ _ _ (c .before .before .before .pre .0) _ _ (c .loop .inv .3) (c .loop .inv .0)
+
+-- there is room for the number of this turn
+kept : (c : tie.At-loop Inv-loop μ-loop) → base (c .before .before .before .args .n) (c .before .before .before .args .i) + c .before .before .before .args .n * c .before .before .before .args .n ≤ length (c .loop .levels)
+kept c = rw (kept-size c) (ends _ _ _ _ (c .before .before .before .pre .0))
+
+loop-holds : tie.Need-loop-holds Inv-loop μ-loop
+unfolding numbering maxOf
+loop-holds c = (omega arith, omega arith, refl, sym (put-none _ _))
+
+mul-loop : tie.Need-mul-loop Inv-loop μ-loop
+mul-loop c = let a = c .before .before .before in omega (arith, base-next (a .args .n) (a .args .i) (a .pre .0 .some))
+
+next-number-requires : tie.Need-next-number-requires Inv-loop μ-loop
+next-number-requires c κs =
+    let l = c .before .before in
+    let a = l .before .before .before in
+    let i = l .loop .inv in (
+      still-ready _ _ _ _ (a .pre .0) _ _ (i .3) (i .0),
+      a .pre .1,
+      begun _ _ _ _ (a .pre .0) _ _ (i .3) (i .0) _ (i .2) (i .1),
+      c .before .loop-test .taken,
+    )
+
+add-levels : tie.Need-add-levels Inv-loop μ-loop
+add-levels c = omega (arith, kept (c .before .before .before), kept-size (c .before .before .before))
+
+mul-levels : tie.Need-mul-levels Inv-loop μ-loop
+mul-levels c = omega (arith, kept (c .before .before .before), kept-size (c .before .before .before))
+
+slice-write-levels : tie.Need-slice-write-levels Inv-loop μ-loop
+slice-write-levels c = omega (arith, kept (c .before .before .before), kept-size (c .before .before .before))
+
+add-p : tie.Need-add-p Inv-loop μ-loop
+add-p c = let a = c .before .before .before .before .before .before .before in omega (arith, square-le (a .pre .0 .few))
+
+loop-less : tie.Need-loop-less Inv-loop μ-loop
+loop-less c = omega arith
+
+loop-again : tie.Need-loop-again Inv-loop μ-loop
+loop-again c =
+    let l = c .before .before .before .before in
+    let a = l .before .before .before in
+    let i = l .loop .inv in
+    let k = c .before .next-number .result in
+    let q = c .before .next-number .ensures in
+    let b = next-small _ _ _ _ (a .pre .0) _ _ (i .3) (i .0) k q _ (i .2) in
+    let m : max (l .loop .top) k ≡ c .if1 .top = ⊎-elim (λ w. omega arith) (λ w. omega arith) (c .if1 .came) in (
+      omega arith,
+      omega arith,
+      sym m ∙ max-next _ _ _ _ (a .pre .0) _ _ (i .3) (i .0) k q _ (i .2),
+      write-next _ _ _ _ (a .pre .0) _ _ (i .3) (i .0) k q (c .before .before .before .loop-test .taken),
+    )
+
+same-length : tie.Need-same-length Inv-loop μ-loop
+same-length c = kept-size (c .before)
+
+returns : tie.Need-returns Inv-loop μ-loop
+unfolding levelOver
+returns c =
+    let l = c .before .loop in
+    let a = c .before .before .before .before .args in
+    let e : l .p ≡ a .n * a .n = omega arith in
+    record { count = rw e at (l .inv .2); written = rw e at (l .inv .3) }
+
+pub number-positions-spec : {M : Type 1} → statement M
+number-positions-spec =
+    tie.close
+    (tie.spec
+    Inv-loop
+    μ-loop
+    sub-start
+    mul-start
+    mul-start-2
+    loop-holds
+    mul-loop
+    next-number-requires
+    add-levels
+    mul-levels
+    slice-write-levels
+    add-p
+    loop-less
+    loop-again
+    same-length
+    returns)

@@ -1,0 +1,122 @@
+// Agreement of two pairs over the levels below.
+ghost use mathlib.Core.Path.{_≡_};
+ghost use Prim.Native.Nat.{ℕ, _*_, _<_, _≤_};
+ghost use Rattle.rules.specs.Graph.{Graph};
+ghost use Rattle.rules.specs.Rule.{rule};
+ghost use Rattle.rules.specs.Levels.{numberAt, levelOf, sameEnds, twins, agree};
+ghost use Rattle.levels.specs.Marks.{markedGraph};
+ghost use Rattle.levels.specs.Needs.{Pair, Marks, Stands};
+use super::marks::same_steps;
+
+// The number of the pair (v,u) at a level.
+pub fn number_at(n: usize, levels: &[u32], level: usize, v: usize, u: usize) -> u32
+    requires { ⌜ (Stands n (now levels) level) × (Pair n v u) ⌝ }
+    ensures { λ r. ⌜ r ≡ numberAt n (levelOf n (now (levels .entry)) level) v u ⌝ }
+{
+    levels[(level - 1) * (n * n) + (v * n + u)]
+}
+
+// Each midpoint of (v,u) has a twin among the midpoints of (x,y): first halves by one level, second halves by another.
+pub fn twins(
+    n: usize,
+    levels: &[u32],
+    first: usize,
+    second: usize,
+    v: usize,
+    u: usize,
+    x: usize,
+    y: usize,
+) -> bool
+    requires { ⌜ (Stands n (now levels) first) × (Stands n (now levels) second) × (Pair n v u) × (Pair n x y) ⌝ }
+    ensures { λ r. ⌜ r ≡ twins n (levelOf n (now (levels .entry)) first) (levelOf n (now (levels .entry)) second) v u x y ⌝ }
+{
+    let mut all = true;
+    'midpoints: for m in 0..n {
+        let a = number_at(n, levels, first, v, m);
+        let b = number_at(n, levels, second, m, u);
+        if a != 0 && b != 0 {
+            'candidates: for w in 0..n {
+                if number_at(n, levels, first, x, w) == a
+                    && number_at(n, levels, second, w, y) == b
+                {
+                    continue 'midpoints;
+                }
+            }
+            all = false;
+            break 'midpoints;
+        }
+    }
+    all
+}
+
+// v is u exactly when x is y.
+pub fn same_ends(v: usize, u: usize, x: usize, y: usize) -> bool
+    ensures { λ r. ⌜ ((g : Graph) → r ≡ sameEnds g v u x y) ⌝ }
+{
+    if v == u {
+        return x == y;
+    }
+    x != y
+}
+
+// How many splits of midpoints level i has.
+fn splits(i: usize) -> usize
+    ensures { λ r. ⌜ r ≡ rule .many i ⌝ }
+{
+    if 1 < i {
+        return 1;
+    }
+    0
+}
+
+// The level of the first half in split c of level i.
+fn first_level(i: usize, c: usize) -> usize
+    requires { ⌜ 0 < i ⌝ }
+    ensures { λ r. ⌜ r ≡ rule .first i c ⌝ }
+{
+    i - 1
+}
+
+// The level of the second half in split c of level i.
+fn second_level(i: usize, c: usize) -> usize
+    requires { ⌜ 0 < i ⌝ }
+    ensures { λ r. ⌜ r ≡ rule .second i c ⌝ }
+{
+    i - 1
+}
+
+// The pairs (v,u) and (x,y) agree at level i: A, B, and C over the levels below.
+pub fn agree(
+    n: usize,
+    i: usize,
+    levels: &[u32],
+    area: &[u8],
+    v: usize,
+    u: usize,
+    x: usize,
+    y: usize,
+) -> bool
+    requires { ⌜ (Stands n (now levels) i) × (Marks n (now area)) × (Pair n v u) × (Pair n x y) ⌝ }
+    ensures { λ r. ⌜ r ≡ agree rule (markedGraph n (now (area .entry))) i (levelOf n (now (levels .entry))) v u x y ⌝ }
+{
+    if !same_ends(v, u, x, y) {
+        return false;
+    }
+    if !same_steps(n, area, v, u, x, y) {
+        return false;
+    }
+    let count = splits(i);
+    let mut c = 0;
+    while c < count {
+        let a = first_level(i, c);
+        let b = second_level(i, c);
+        if !twins(n, levels, a, b, v, u, x, y) {
+            return false;
+        }
+        if !twins(n, levels, a, b, x, y, v, u) {
+            return false;
+        }
+        c += 1;
+    }
+    true
+}

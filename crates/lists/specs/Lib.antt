@@ -1,0 +1,4 @@
+pub mod Sort
+pub mod Relations
+pub mod Entries
+pub mod Counters
