@@ -18,3 +18,5 @@ mod building;
 mod checking;
 // build and check
 pub mod tables;
+// the class numbers of a set of pairs
+mod classes;

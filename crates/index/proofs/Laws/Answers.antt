@@ -1,10 +1,11 @@
 -- What is known of an answer's call that is refused nothing before the work, and how it ends.
-use Prim.Native.Nat.{ℕ, _*_, _≤_}
-use mathlib.Core.Path.{_≡_, sym}
-use mathlib.Core.List.{List}
-use mathlib.Core.Bool.{Bool, true, false, false≢true}
+use Prim.Native.Nat.{ℕ, _*_, _/_, _%_, _≤_}
+use mathlib.Core.Path.{_≡_, sym, ap, _∙_}
+use mathlib.Core.Logic.{inl, inr}
+use mathlib.Core.List.{List, map}
+use mathlib.Core.Bool.{Bool, true, false, false≢true, _&&_}
 use native.Mathlib.Omega.{arith}
-use lib.ListN.{length}
+use lib.ListN.{length, getD}
 use Rattle.rules.specs.declared.Answered.{Answered}
 use Rattle.rules.specs.declared.Answered.the-variants.{Refused}
 use Rattle.rules.specs.declared.Refusal.{Refusal}
@@ -12,19 +13,24 @@ use Rattle.rules.specs.Finite.{listBelow}
 use Rattle.rules.specs.Graph.{graphOf}
 use Rattle.rules.specs.Query.{meetsBy, answerBy, answerOf}
 use Rattle.rules.specs.Reading.{readTokens}
-use Rattle.rules.specs.Stored.{storedAnswer}
+use Rattle.rules.specs.Stored.{storedStep, storedAnswer, leader, classAnswer}
 use Rattle.rules.specs.Writing.{fill}
-use Rattle.rules.specs.Verdict.{good, refuse, _orElse_, sizes, edgeCount, edgesFit, room, wellRead, queryOf}
-use Rattle.rules.specs.Outcomes.{DirectCall, directRefusal, directList, direct, StoredCall, storedRefusal, storedList, stored}
+use Rattle.rules.specs.Verdict.{good, refuse, _orElse_, sizes, levelCount, edgeCount, edgesFit, room, wellRead, queryOf, withinDiameter}
+use Rattle.rules.specs.Outcomes.{DirectCall, directRefusal, directList, direct, StoredCall, storedRefusal, storedList, stored, ClassCall, classRefusal, classList, class}
 use Rattle.rules.specs.Promises.{Ends}
 use Rattle.rules.proofs.Laws.Verdict.{or-else-good}
 use Rattle.rules.proofs.Laws.Links.{SizesFit, sizes-fit, EdgesIn, edges-in, room-fits}
-use Rattle.area.specs.Packed.{pairIn, Slot}
+use Rattle.rules.proofs.Laws.Finite.{list-same}
+use Rattle.rules.proofs.Laws.Places.{row-lt, column-lt, square-le}
+use Rattle.area.specs.Packed.{pairIn, Slot, Only}
+use Rattle.area.proofs.Laws.Only.{holds-kept}
 use Rattle.area.proofs.Laws.Sets.{list-holds}
 use Rattle.query.specs.Evaluate.{sourceStep, Source, Evaluable, Evaluated}
 use Rattle.query.proofs.Laws.Places.{slot-short}
 use Rattle.index.specs.Calls.{ended}
 use Rattle.index.specs.Telling.{Told}
+use Rattle.index.specs.Classes.{notedLast, Notable, Noted, toldAt, classesUpTo}
+use Rattle.index.proofs.Laws.Firsts.{last-only, firsts-noted}
 use Rattle.index.proofs.Laws.Telling.{ends-told, ends-refused}
 
 -- what every answer asks before its work
@@ -123,3 +129,66 @@ module _ (c : StoredCall) where
     stored-told z written r g told cleared =
         ends-told (c .items) (c .area) w z (stored-passed c g .ready .wide) (e .size) (e .beyond) cleared (storedRefusal c) (storedList c) (c .answers) written r g
         (rw stored-pairs at told)
+
+pub record ClassPassed (c : ClassCall) : Type 0 where
+  pub ready : Ready (c .items) (c .labels) (c .tokens) (c .area)
+  pub table : c .items * c .items ≤ length (c .table)
+
+pub class-passed : (c : ClassCall) → classRefusal c ≡ good → ClassPassed c
+unfolding classRefusal
+class-passed c e =
+    let read-link = wellRead (readTokens (c .labels) (c .tokens)) in
+    let long-link = withinDiameter (c .k) (queryOf (readTokens (c .labels) (c .tokens))) in
+    let area-link = room (c .area) (9 * (c .items * c .items)) in
+    let table-link = room (c .table) (c .items * c .items) in
+    let s = or-else-good (sizes (c .items) (c .labels)) (levelCount (c .k) orElse read-link orElse long-link orElse area-link orElse table-link) e in
+    let k = or-else-good (levelCount (c .k)) (read-link orElse long-link orElse area-link orElse table-link) (s .1) in
+    let r = or-else-good read-link (long-link orElse area-link orElse table-link) (k .1) in
+    let d = or-else-good long-link (area-link orElse table-link) (r .1) in
+    let a = or-else-good area-link table-link (d .1) in
+    record {
+      ready = record { fit = sizes-fit (c .items) (c .labels) (s .0); read = r .0; wide = room-fits (c .area) (9 * (c .items * c .items)) (a .0) };
+      table = room-fits (c .table) (c .items * c .items) (a .1);
+    }
+
+-- first positions noted behind slot 0 leave what was evaluated
+module _ {n : ℕ} {g : ℕ → ℕ → Bool} {area w : List ℕ} (t r : List ℕ) (few : n ≤ 128) (wide : 9 * (n * n) ≤ length area) (fits : n * n ≤ length t)
+    (e : Evaluated n g area w) where
+  pub notable : Notable w (n * n) t
+  notable = record { few = square-le few; wide = omega (arith, e .size); fits = fits }
+
+  module _ (q : r ≡ notedLast w (n * n) t (n * n)) where
+    pub noted-firsts : Noted r (n * n) t
+    noted-firsts = rw q (firsts-noted w (n * n) t notable)
+
+    pub evaluated-still : Evaluated n g area r
+    evaluated-still =
+        let o : Only (2 * (n * n)) (7 * (n * n)) w r = rw q (last-only w (n * n) t (n * n) (omega arith)) in
+        record {
+          size = o .size ∙ e .size;
+          holds = holds-kept n (2 * (n * n)) (7 * (n * n)) 0 w r o (inl (omega (arith, slot-short n))) (e .holds);
+          beyond = λ j h. o .outside j (inr (omega arith)) ∙ e .beyond j h;
+        }
+
+module _ (c : ClassCall) where
+  pub class-refused : (f : Refusal) → classRefusal c ≡ refuse f → Ends (class c) (ended (Refused f) (c .answers) (c .area))
+  unfolding class
+  class-refused f e = ends-refused (c .items) (classList c) (c .answers) (c .area) (classRefusal c) e
+
+  module _ (edges w : List ℕ)
+      (e : Evaluated (c .items) (meetsBy (c .items) (sourceStep true (c .items) (c .labels) edges (c .table) (c .entries)) (queryOf (readTokens (c .labels) (c .tokens)))) (c .area) w) where
+    class-numbers : classesUpTo (c .items) w (c .table) (c .items * c .items) ≡ classList c
+    unfolding classesUpTo classList classAnswer sourceStep toldAt pairIn
+    class-numbers =
+        let n = c .items in
+        let q = queryOf (readTokens (c .labels) (c .tokens)) in
+        ap (map (λ p. getD (c .table) p 0))
+        (list-same (n * n) (toldAt n w (c .table)) (λ p. leader (n * n) (c .table) p && meetsBy n (storedStep n (c .table) (c .entries)) q (p / n) (p % n))
+        (λ p h. ap (λ (b : Bool). leader (n * n) (c .table) p && b) (e .holds .pairs (p / n) (p % n) (row-lt n p h) (column-lt n p h))))
+
+    pub class-told : (z written : List ℕ) (r : Answered) → classRefusal c ≡ good → Told (classesUpTo (c .items) w (c .table) (c .items * c .items)) (c .answers) r written
+        → z ≡ fill w 0 (9 * (c .items * c .items)) (λ _. 0) → Ends (class c) (ended r written z)
+    unfolding class
+    class-told z written r g told cleared =
+        ends-told (c .items) (c .area) w z (class-passed c g .ready .wide) (e .size) (e .beyond) cleared (classRefusal c) (classList c) (c .answers) written r g
+        (rw class-numbers at told)
