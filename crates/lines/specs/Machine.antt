@@ -109,12 +109,15 @@ onEdge bad source target label (gathering items labels k edges) =
 onEdge bad source target label (answering _ _ _ _) = bad
 onEdge bad source target label stopped = bad
 
+-- the answer to a query behind what is printed already
+unfoldable pub asked : Turn → List ℕ → Turn
+asked t tokens = record { stage = t .stage; text = t .text ++ answers (t .stage) tokens }
+
 -- then 03s: the 81 line before the first
 unfoldable pub onQuery : Turn → List ℕ → Stage → Turn
 onQuery bad tokens opening = bad
-onQuery bad tokens (gathering items labels k edges) = let t = builds items labels k edges in record { stage = t .stage; text = t .text ++ answers (t .stage) tokens }
-onQuery bad tokens (answering items labels table entries) =
-    record { stage = answering items labels table entries; text = answers (answering items labels table entries) tokens }
+onQuery bad tokens (gathering items labels k edges) = asked (builds items labels k edges) tokens
+onQuery bad tokens (answering items labels table entries) = asked (silent (answering items labels table entries)) tokens
 onQuery bad tokens stopped = bad
 
 unfoldable pub onFrame : Turn → List ℕ → Stage → Frame → Turn
@@ -136,8 +139,8 @@ pub record Machine : Type 0 where
   pub lines : ℕ
   pub part : List ℕ
 
-unfoldable pub start : Machine
-start = record { stage = opening; lines = 0; part = [] }
+unfoldable pub beginning : Machine
+beginning = record { stage = opening; lines = 0; part = [] }
 
 -- a line's number, from 1; it stays at FFFFFFFF once there
 unfoldable pub nextLine : ℕ → ℕ
@@ -174,9 +177,12 @@ feed m [] = record { machine = m; text = [] }
 feed m (b ∷ bytes) = after (byte m b .text) (feed (byte m b .machine) bytes)
 
 -- the last line may lack its LF; a final LF opens no line
-unfoldable pub lastLine : Machine → List ℕ → Fed
-lastLine m [] = record { machine = m; text = [] }
-lastLine m (b ∷ part) = endLine m
+unfoldable pub lastBy : Machine → List ℕ → Fed
+lastBy m [] = record { machine = m; text = [] }
+lastBy m (b ∷ part) = endLine m
+
+unfoldable pub lastLine : Machine → Fed
+lastLine m = cond (isStopped (m .stage)) (record { machine = m; text = [] }) (lastBy m (m .part))
 
 -- at the end of input the tables are built if no query asked for them; an input with no line at all is a bad frame
 unfoldable pub ended : Machine → Stage → List ℕ
@@ -186,10 +192,8 @@ ended m (answering items labels table entries) = []
 ended m stopped = []
 
 unfoldable pub finish : Machine → List ℕ
-finish m =
-    cond (isStopped (m .stage)) []
-    (let last = lastLine m (m .part) in last .text ++ ended (last .machine) (last .machine .stage))
+finish m = let last = lastLine m in last .text ++ ended (last .machine) (last .machine .stage)
 
 -- the whole run
 unfoldable pub run : List ℕ → List ℕ
-run input = let f = feed start input in f .text ++ finish (f .machine)
+run input = let f = feed beginning input in f .text ++ finish (f .machine)

@@ -2,7 +2,7 @@
 use Prim.Native.Nat.{ℕ, _+_, _%_, _≤_, _<_}
 use mathlib.Core.Path.{_≡_}
 use mathlib.Core.List.{List}
-use lib.ListN.{length, take}
+use lib.ListN.{length, take, drop}
 use lib.Seq.{sets}
 use Rattle.rules.specs.Levels.{levelOf}
 use Rattle.lines.specs.declared.Phase.{Phase}
@@ -11,7 +11,8 @@ use Rattle.lines.specs.declared.Progress.{Progress}
 use Rattle.lines.specs.declared.Moved.{Moved}
 use Rattle.lines.specs.declared.State.{State}
 use Rattle.lines.specs.declared.Taken.{Taken}
-use Rattle.lines.specs.Machine.{Stage, opening, gathering, answering, stopped, Turn, Machine, Fed}
+use Rattle.lines.specs.declared.Advance.{Advance}
+use Rattle.lines.specs.Machine.{Stage, opening, gathering, answering, stopped, Turn, Machine, Fed, after, feed}
 
 -- the stage that the code's progress and lists stand for: the edges so far, the level-k table and the entries are parts of lent lists
 unfoldable pub stageBy : Phase → Progress → List ℕ → List ℕ → List ℕ → Stage
@@ -36,6 +37,7 @@ pub record Comes (t : Turn) (r : Moved) (edges levels entries old new : List ℕ
   pub stage : stageOf (r .progress) edges levels entries ≡ t .stage
   pub many : r .many ≡ length (t .text)
   pub text : new ≡ sets old 0 (t .text)
+  pub inside : r .many ≤ length old
   pub fits : Fits (r .progress)
 
 -- the machine that the code's state and lists stand for
@@ -53,23 +55,29 @@ pub record Steps (f : Fed) (r : Taken) (part edges levels entries old new : List
   pub machine : machineOf (r .state) part edges levels entries ≡ f .machine
   pub many : r .many ≡ length (f .text)
   pub text : new ≡ sets old 0 (f .text)
+  pub inside : r .many ≤ length old
   pub stands : Stands (r .state)
 
--- the lengths of the lent lists
-pub record Lent (edges levels starts order entries area answers out : List ℕ) : Type 0 where
+-- the lengths of the lists that the tables are built in
+pub record Rooms (edges levels starts order entries area out : List ℕ) : Type 0 where
   pub edges-lent : length edges ≡ 3072
   pub levels-lent : length levels ≡ 4096
   pub starts-lent : length starts ≡ 1025
   pub order-lent : length order ≡ 1024
   pub entries-lent : length entries ≡ 4096
   pub area-lent : length area ≡ 9216
-  pub answers-lent : length answers ≡ 1024
   pub out-lent : length out ≡ 4118
+
+-- and of the list of answers
+pub record Lent (edges levels starts order entries area answers out : List ℕ) : Type 0 where
+  pub rooms : Rooms edges levels starts order entries area out
+  pub answers-lent : length answers ≡ 1024
 
 -- so many bytes of the output, from a place on, are the text
 pub record Written (text : List ℕ) (many at : ℕ) (old new : List ℕ) : Type 0 where
   pub size : many ≡ length text
   pub bytes : new ≡ sets old at text
+  pub inside : at + many ≤ length old
 
 -- what a query is answered from: the level-k table and the entries lie within the lent lists, and the answer in the output
 pub record Ready (p : Progress) (levels entries area answers : List ℕ) (at : ℕ) (out : List ℕ) : Type 0 where
@@ -81,3 +89,22 @@ pub record Ready (p : Progress) (levels entries area answers : List ℕ) (at : �
   pub area-lent : length area ≡ 9216
   pub answers-lent : length answers ≡ 1024
   pub room : at + 4103 ≤ length out
+
+-- what a query is answered behind: at most the 81 line stands in the output
+pub record Asks (t : Moved) (line levels entries area answers out : List ℕ) : Type 0 where
+  pub fits : Fits (t .progress)
+  pub few : t .many ≤ 15
+  pub short : length line ≤ 512
+  pub levels-lent : length levels ≡ 4096
+  pub entries-lent : length entries ≡ 4096
+  pub area-lent : length area ≡ 9216
+  pub answers-lent : length answers ≡ 1024
+  pub out-lent : length out ≡ 4118
+
+-- the bytes from a place up to the next were taken, and what stands at the front of the output is what the machine printed for them
+pub record Advances (input : List ℕ) (from : ℕ) (m : Machine) (r : Advance) (part edges levels entries out : List ℕ) : Type 0 where
+  pub fed : feed m (drop from input) ≡ after (take (r .many) out) (feed (machineOf (r .state) part edges levels entries) (drop (r .next) input))
+  pub inside : r .many ≤ length out
+  pub stands : Stands (r .state)
+  pub further : from < r .next
+  pub within : r .next ≤ length input

@@ -2,7 +2,9 @@
 pub mod asking; // a query, answered from the stored tables
 pub mod frames; // what a line says
 pub mod stages; // what a line that is no query does
+pub mod steps; // a byte, and the end of the input
 pub mod texts; // the lines of the output
+pub mod turns; // what any line does
 
 // The three numbers of a frame 01 or 02, or none.
 pub enum Fields {
@@ -60,5 +62,12 @@ pub struct State {
 // What a byte came to: the state behind it, and how many bytes of text stand at the front of the output.
 pub struct Taken {
     pub state: State,
+    pub many: usize,
+}
+
+// How far the input was taken: the state behind it, the place of the next byte, and how many bytes of text stand at the front of the output.
+pub struct Advance {
+    pub state: State,
+    pub next: usize,
     pub many: usize,
 }

@@ -1,14 +1,14 @@
 -- A stored answer: what it says depends on how much is lent, not on what stands there.
 use Prim.Native.Nat.{ℕ, zero, suc, pred, _+_, _-_, _*_, _≤_, _<_}
 use mathlib.Core.Path.{_≡_, refl, sym, ap, _∙_}
-use mathlib.Core.List.{List, [], _∷_}
+use mathlib.Core.List.{List}
 use mathlib.Core.Bool.{Bool, true, false, cond}
 use native.Mathlib.Nat.{mul-le-mul, suc-mul}
 use native.Mathlib.Omega.{arith}
 use borrow.Author.Tests.{leb-true}
 use lib.Dec.{leb}
 use lib.ListN.{length, take, drop, replicate, length-replicate, getD}
-use lib.Seq.{sets, take-at, slice, take-nil, ext-getD, getD-take, length-take-le}
+use lib.Seq.{sets, take-at, ext-getD, getD-take, length-take-le}
 use Rattle.rules.specs.declared.Refusal.{Refusal}
 use Rattle.rules.specs.declared.Refusal.the-variants.{AnswerRoom}
 use Rattle.rules.specs.declared.Answered.{Answered}
@@ -19,6 +19,7 @@ use Rattle.rules.specs.Verdict.{Verdict, good, refuse, _orElse_, sizes, room, w
 use Rattle.rules.specs.Reading.{readTokens}
 use Rattle.rules.specs.Writing.{fill}
 use Rattle.rules.specs.Outcomes.{front, AnswerEnd, answerAfter, StoredCall, storedRefusal, storedList, stored}
+use Rattle.index.proofs.Laws.Parts.{take-from}
 use Rattle.rules.proofs.Laws.Listing.{table-length, table-at}
 use Rattle.rules.proofs.Laws.Writing.{length-fill, getD-fill-front}
 use Rattle.lines.specs.Frames.{tokenCount, tokenAt, tokensOf}
@@ -54,7 +55,7 @@ pub listed : (c : StoredCall) (m : ℕ) → stored c .result ≡ Answers m → L
 unfolding stored
 listed c m e = listed-after (c .items) (storedList c) (c .answers) (c .area) m (storedRefusal c) e
 
-room-same : (a b : List ℕ) (n : ℕ) → length a ≡ length b → room a n ≡ room b n
+pub room-same : (a b : List ℕ) (n : ℕ) → length a ≡ length b → room a n ≡ room b n
 unfolding room
 room-same a b n e = rw e
 
@@ -103,14 +104,6 @@ module _ (items labels : ℕ) (table entries tokens answers area : List ℕ) whe
     pub many-fits : (m : ℕ) (result : Answered) → result ≡ stored call .result → result ≡ Answers m → m ≤ 1024
     many-fits m result r e = omega (arith, listed call m (sym r ∙ e) .fits, a)
 
--- a part of a list, from the front of what is left or from the end of what is kept
-take-from : (from to : ℕ) (list : List ℕ) → from ≤ to → take (to - from) (drop from list) ≡ slice from to list
-take-from zero to list h = let e : to - 0 ≡ to = omega arith in ap (λ (n : ℕ). take n list) e
-take-from (suc from) zero list h = absurd (omega arith)
-take-from (suc from) (suc to) [] h = take-nil (suc to - suc from)
-take-from (suc from) (suc to) (x ∷ list) h =
-    let e : suc to - suc from ≡ to - from = omega arith in ap (λ (n : ℕ). take n (drop from list)) e ∙ take-from from to list (omega arith)
-
 -- the table of level k as a part of all levels
 pub table-part : (n k : ℕ) (levels : List ℕ) → 0 < k
     → take (k * (n * n) - (k * (n * n) - 1 * (n * n))) (drop (k * (n * n) - 1 * (n * n)) levels) ≡ levelOf n levels k
@@ -156,17 +149,17 @@ module _ (items labels k : ℕ) (levels entries tokens answers area : List ℕ) 
 
     pub written-answers : (m : ℕ) (result : Answered) (after : List ℕ) → result ≡ stored (call items labels table entries tokens answers area) .result
         → after ≡ stored (call items labels table entries tokens answers area) .answers → result ≡ Answers m → m ≤ length after
-        → (at : ℕ) (old new : List ℕ) → new ≡ sets old at (listText m (take m after))
+        → (at : ℕ) (old new : List ℕ) → at + 4103 ≤ length old → new ≡ sets old at (listText m (take m after))
         → Written (answerText (stored (storedCall items labels (levelOf items levels k) entries tokens))) (7 + 4 * m) at old new
-    written-answers m result after r s t l at old new u =
+    written-answers m result after r s t l at old new o u =
         let text : listText m (take m after) ≡ answerText (stored (storedCall items labels (levelOf items levels k) entries tokens)) =
         text-answers items labels table entries tokens answers area a w m result after r s t ∙ asked in
-        record { size = sym (list-length old after at m l) ∙ ap length text; bytes = u ∙ ap (sets old at) text }
+        record { size = sym (list-length old after at m l) ∙ ap length text; bytes = u ∙ ap (sets old at) text; inside = omega (arith, many-fits items labels table entries tokens answers area a w m result r t) }
 
     pub written-refusal : (r : Refusal) (result : Answered) → result ≡ stored (call items labels table entries tokens answers area) .result → result ≡ Refused r
-        → (at : ℕ) (old new : List ℕ) → new ≡ sets old at (refusalText r)
+        → (at : ℕ) (old new : List ℕ) → at + 4103 ≤ length old → new ≡ sets old at (refusalText r)
         → Written (answerText (stored (storedCall items labels (levelOf items levels k) entries tokens))) 13 at old new
-    written-refusal r result s t at old new u =
+    written-refusal r result s t at old new o u =
         let text : refusalText r ≡ answerText (stored (storedCall items labels (levelOf items levels k) entries tokens)) =
         text-refused items labels table entries tokens answers area a w r result s t ∙ asked in
-        record { size = sym (refusal-length r) ∙ ap length text; bytes = u ∙ ap (sets old at) text }
+        record { size = sym (refusal-length r) ∙ ap length text; bytes = u ∙ ap (sets old at) text; inside = omega arith }

@@ -18,6 +18,9 @@ use Rattle.lines.specs.Standing.{stageBy, stageOf, Fits, Comes}
 use Rattle.lines.proofs.Laws.Texts.{refusal-length}
 
 -- another phase is not that of the answers
+pub opening-answering : {A : Type 0} → Opening ≡ Answering → A
+opening-answering e = absurd (let z : _≡_ {A = ℕ} 0 1 = cc in omega arith)
+
 pub gathering-answering : {A : Type 0} → Gathering ≡ Answering → A
 gathering-answering e = absurd (let z : _≡_ {A = ℕ} 0 1 = cc in omega arith)
 
@@ -25,21 +28,22 @@ pub stopped-answering : {A : Type 0} → Stopped ≡ Answering → A
 stopped-answering e = absurd (let z : _≡_ {A = ℕ} 0 1 = cc in omega arith)
 
 -- the turn is another's
-pub comes-as : (t u : Turn) (r : Moved) (edges levels entries old new : List ℕ) → u ≡ t → Comes t r edges levels entries old new → Comes u r edges levels entries old new
-comes-as t u r edges levels entries old new e h = rw e h
+pub comes-as : {t u : Turn} {r : Moved} {edges levels entries old new : List ℕ} → u ≡ t → Comes t r edges levels entries old new → Comes u r edges levels entries old new
+comes-as e h = rw e h
 
 -- a stop
 abbrev pub halted : Progress
 halted = record { phase = Stopped; items = 0; labels = 0; k = 0; edges = 0; entries = 0 }
 
-pub stop-comes : (refusal : Refusal) (edges levels entries old new : List ℕ) → new ≡ sets old 0 (refusalText refusal)
+pub stop-comes : (refusal : Refusal) (edges levels entries old new : List ℕ) → new ≡ sets old 0 (refusalText refusal) → 13 ≤ length old
     → Comes (stops refusal) (record { progress = halted; many = 13 }) edges levels entries old new
 unfolding stops stageOf stageBy
-stop-comes refusal edges levels entries old new e =
+stop-comes refusal edges levels entries old new e h =
     record {
       stage = refl;
       many = sym (refusal-length refusal);
       text = e;
+      inside = h;
       fits =
           record {
             items-fit = omega arith;
@@ -64,6 +68,7 @@ module _ (p : Progress) (items labels k number : ℕ) (edges levels entries : Li
         stage = refl;
         many = refl;
         text = refl;
+        inside = omega arith;
         fits =
             record {
               items-fit = h;
@@ -119,6 +124,7 @@ module _ (p : Progress) (source target label number : ℕ) (edges levels entries
             (ap (take (p .edges + 3)) w ∙ taken-behind edges (source ∷ target ∷ label ∷ []) (p .edges) (p .edges + 3) refl (omega (arith, n, room)));
         many = refl;
         text = refl;
+        inside = omega arith;
         fits =
             record {
               items-fit = f .items-fit;

@@ -17,7 +17,7 @@ use Rattle.rules.specs.Outcomes.{front, zeroed, buildRefusal, buildNothing, bui
 use Rattle.rules.specs.Numbers.{ofRefusal}
 use Rattle.lines.specs.Frames.{three, fieldsOf, sizesBy, edgeBy, isNumber, valueOr0, tokenCount, isToken, tokenAt, allTokens, tokensOf, frameBy, frameOf}
 use Rattle.lines.specs.Texts.{refusalText, builtText, positions, listText, answerBy, answerText}
-use Rattle.lines.specs.Machine.{isStopped, silent, stops, buildCall, builtBy, builds, storedCall, answers, onSizes, onEdge, onQuery, onFrame, badFrame, onLine, start, nextLine, turned, endLine, keep, byte, after, feed, lastLine, ended, finish, run}
+use Rattle.lines.specs.Machine.{isStopped, silent, stops, buildCall, builtBy, builds, storedCall, answers, onSizes, onEdge, asked, onQuery, onFrame, badFrame, onLine, beginning, nextLine, turned, endLine, keep, byte, after, feed, lastBy, lastLine, ended, finish, run}
 
 -- the document's input
 abbrev pub input : List ℕ
@@ -42,10 +42,10 @@ output =
 
 -- the example of the document gives exactly its output
 pub example : run input ≡ output
-unfolding valueOf digitOf andDigit digitsAt putDigits anyBelow allBelow firstBelow listBelow tableBelow edgeIs hasEdge graphOf leads adjacent connected rule reach atomBy meetsBy answerOver tokenOf push fold2 act end readFrom readTokens numberAt sameEnds sameSteps isTwin hasTwin twins splitOk agree agreeAt connectedAt maxOf firstOf matches nextNumber numbering levelOf stack levelOver builtLevels builtLevel pairsOf orderUpTo startsUpTo joins codeFrom joinsClass entriesFor eachUpTo entriesBehind entriesUpTo startsOf orderOf entriesOf codeAt classAt partFrom partTo stands storedStep storedAnswer _orElse_ when sizes levelCount edgeCount badEdge firstBad edgesFit room wellRead queryOf topOf builtIndex front zeroed buildRefusal buildNothing buildTables indexFor buildAfter build answerAfter storedRefusal storedList stored ofRefusal three fieldsOf sizesBy edgeBy isNumber valueOr0 tokenCount isToken tokenAt allTokens tokensOf frameBy frameOf refusalText builtText positions listText answerBy answerText isStopped silent stops buildCall builtBy builds storedCall answers onSizes onEdge onQuery onFrame badFrame onLine start nextLine turned endLine keep byte after feed lastLine ended finish run
+unfolding valueOf digitOf andDigit digitsAt putDigits anyBelow allBelow firstBelow listBelow tableBelow edgeIs hasEdge graphOf leads adjacent connected rule reach atomBy meetsBy answerOver tokenOf push fold2 act end readFrom readTokens numberAt sameEnds sameSteps isTwin hasTwin twins splitOk agree agreeAt connectedAt maxOf firstOf matches nextNumber numbering levelOf stack levelOver builtLevels builtLevel pairsOf orderUpTo startsUpTo joins codeFrom joinsClass entriesFor eachUpTo entriesBehind entriesUpTo startsOf orderOf entriesOf codeAt classAt partFrom partTo stands storedStep storedAnswer _orElse_ when sizes levelCount edgeCount badEdge firstBad edgesFit room wellRead queryOf topOf builtIndex front zeroed buildRefusal buildNothing buildTables indexFor buildAfter build answerAfter storedRefusal storedList stored ofRefusal three fieldsOf sizesBy edgeBy isNumber valueOr0 tokenCount isToken tokenAt allTokens tokensOf frameBy frameOf refusalText builtText positions listText answerBy answerText isStopped silent stops buildCall builtBy builds storedCall answers onSizes onEdge asked onQuery onFrame badFrame onLine beginning nextLine turned endLine keep byte after feed lastBy lastLine ended finish run
 example = refl
 
 -- empty input prints FF1200000001
 pub empty : run [] ≡ 70 ∷ 70 ∷ 49 ∷ 50 ∷ 48 ∷ 48 ∷ 48 ∷ 48 ∷ 48 ∷ 48 ∷ 48 ∷ 49 ∷ 10 ∷ []
-unfolding isStopped silent stops buildCall builtBy builds storedCall answers onSizes onEdge onQuery onFrame badFrame onLine start nextLine turned endLine keep byte after feed lastLine ended finish run refusalText ofRefusal putDigits digitOf
+unfolding isStopped silent stops buildCall builtBy builds storedCall answers onSizes onEdge asked onQuery onFrame badFrame onLine beginning nextLine turned endLine keep byte after feed lastBy lastLine ended finish run refusalText ofRefusal putDigits digitOf
 empty = refl

@@ -2,7 +2,7 @@
 use Prim.Native.Nat.{ℕ}
 use mathlib.Core.Path.{_≡_, refl, sym, ap, _∙_}
 use mathlib.Core.List.{List, [], _∷_, _++_, append-assoc}
-use Rattle.lines.specs.Machine.{Machine, Fed, byte, after, feed, finish, start, run}
+use Rattle.lines.specs.Machine.{Machine, Fed, byte, after, feed, finish, beginning, run}
 
 -- one text before another, before what follows
 after-after : (s t : List ℕ) (f : Fed) → after s (after t f) ≡ after (s ++ t) f
@@ -16,8 +16,8 @@ pieces m [] b = refl
 pieces m (x ∷ a) b = ap (after (byte m x .text)) (pieces (byte m x .machine) a b) ∙ after-after (byte m x .text) (feed (byte m x .machine) a .text) _
 
 -- so a run is the text of a first piece, and then the text of the rest
-pub run-pieces : (a b : List ℕ) → run (a ++ b) ≡ feed start a .text ++ (feed (feed start a .machine) b .text ++ finish (feed (feed start a .machine) b .machine))
+pub run-pieces : (a b : List ℕ) → run (a ++ b) ≡ feed beginning a .text ++ (feed (feed beginning a .machine) b .text ++ finish (feed (feed beginning a .machine) b .machine))
 unfolding run after
 run-pieces a b =
-    ap (λ (f : Fed). f .text ++ finish (f .machine)) (pieces start a b)
-    ∙ append-assoc (feed start a .text) (feed (feed start a .machine) b .text) (finish (feed (feed start a .machine) b .machine))
+    ap (λ (f : Fed). f .text ++ finish (f .machine)) (pieces beginning a b)
+    ∙ append-assoc (feed beginning a .text) (feed (feed beginning a .machine) b .text) (finish (feed (feed beginning a .machine) b .machine))

@@ -76,7 +76,7 @@ returns c =
     let q = c .before .before .before .before .before .before .before .before .before .before .before .before .before .before .before .before .before .before .before .before .before .before .before .before .before .pre in
     let m = c .before .before .before .before .before .before .answered .given .0 .0 in
     let few : m ≤ 1024 = many-fits (a .p .items) (a .p .labels) (take (c .before .before .before .before .before .before .before .before .before .before .before .before .before .before .before .before .before .before .table-end .result - (c .before .before .before .before .before .before .before .before .before .before .before .before .before .before .before .before .before .before .table-end .result - c .before .before .before .before .before .before .before .before .before .before .before .before .before .before .before .before .before .table-end2 .result)) (drop (c .before .before .before .before .before .before .before .before .before .before .before .before .before .before .before .before .before .before .table-end .result - c .before .before .before .before .before .before .before .before .before .before .before .before .before .before .before .before .before .table-end2 .result) (a .levels .now))) (take (a .p .entries) (a .entries .now)) (a .tokens .now) (a .answers .now) (a .area .now) (q .answers-lent) (q .area-lent) m (c .before .before .before .before .before .before .before .before .before .before .before .before .stored .result) (c .before .before .before .before .before .before .before .before .before .before .before .before .stored .ensures .result) (c .before .before .before .before .before .before .answered .given .1) in
-    written-answers (a .p .items) (a .p .labels) (a .p .k) (a .levels .now) (take (a .p .entries) (a .entries .now)) (a .tokens .now) (a .answers .now) (a .area .now) (c .before .before .before .before .before .before .before .before .before .before .before .before .before .before .before .before .before .before .table-end .result) (c .before .before .before .before .before .before .before .before .before .before .before .before .before .before .before .before .before .table-end2 .result) (c .before .before .before .before .before .before .before .before .before .before .before .before .before .before .before .before .before .before .table-end .ensures) (c .before .before .before .before .before .before .before .before .before .before .before .before .before .before .before .before .before .table-end2 .ensures) (q .some-level) (q .answers-lent) (q .area-lent) m (c .before .before .before .before .before .before .before .before .before .before .before .before .stored .result) (c .before .before .before .before .before .before .before .before .before .before .before .before .stored .last .1 .1 .1 .1 .1 .0) (c .before .before .before .before .before .before .before .before .before .before .before .before .stored .ensures .result) (c .before .before .before .before .before .before .before .before .before .before .before .before .stored .ensures .answers) (c .before .before .before .before .before .before .answered .given .1) (omega (arith, few, c .before .before .before .before .before .before .before .before .before .before .before .before .stored .kept .1 .1 .1 .1 .1 .0, q .answers-lent)) (a .at) (a .out .now) (c .before .before .put-list .last .0) (c .before .before .put-list .ensures)
+    written-answers (a .p .items) (a .p .labels) (a .p .k) (a .levels .now) (take (a .p .entries) (a .entries .now)) (a .tokens .now) (a .answers .now) (a .area .now) (c .before .before .before .before .before .before .before .before .before .before .before .before .before .before .before .before .before .before .table-end .result) (c .before .before .before .before .before .before .before .before .before .before .before .before .before .before .before .before .before .table-end2 .result) (c .before .before .before .before .before .before .before .before .before .before .before .before .before .before .before .before .before .before .table-end .ensures) (c .before .before .before .before .before .before .before .before .before .before .before .before .before .before .before .before .before .table-end2 .ensures) (q .some-level) (q .answers-lent) (q .area-lent) m (c .before .before .before .before .before .before .before .before .before .before .before .before .stored .result) (c .before .before .before .before .before .before .before .before .before .before .before .before .stored .last .1 .1 .1 .1 .1 .0) (c .before .before .before .before .before .before .before .before .before .before .before .before .stored .ensures .result) (c .before .before .before .before .before .before .before .before .before .before .before .before .stored .ensures .answers) (c .before .before .before .before .before .before .answered .given .1) (omega (arith, few, c .before .before .before .before .before .before .before .before .before .before .before .before .stored .kept .1 .1 .1 .1 .1 .0, q .answers-lent)) (a .at) (a .out .now) (c .before .before .put-list .last .0) (q .room) (c .before .before .put-list .ensures)
 
 same-length-4 : tie.Need-same-length-4
 same-length-4 c = search needs
@@ -91,7 +91,7 @@ returns-2 : tie.Need-returns-2
 returns-2 c =
     let a = c .before .before .before .before .before .before .before .before .before .before .before .before .before .before .before .before .before .before .before .before .before .before .before .before .args in
     let q = c .before .before .before .before .before .before .before .before .before .before .before .before .before .before .before .before .before .before .before .before .before .before .before .before .pre in
-    written-refusal (a .p .items) (a .p .labels) (a .p .k) (a .levels .now) (take (a .p .entries) (a .entries .now)) (a .tokens .now) (a .answers .now) (a .area .now) (c .before .before .before .before .before .before .before .before .before .before .before .before .before .before .before .before .before .table-end .result) (c .before .before .before .before .before .before .before .before .before .before .before .before .before .before .before .before .table-end2 .result) (c .before .before .before .before .before .before .before .before .before .before .before .before .before .before .before .before .before .table-end .ensures) (c .before .before .before .before .before .before .before .before .before .before .before .before .before .before .before .before .table-end2 .ensures) (q .some-level) (q .answers-lent) (q .area-lent) _ (c .before .before .before .before .before .before .before .before .before .before .before .stored .result) (c .before .before .before .before .before .before .before .before .before .before .before .stored .ensures .result) (c .before .before .before .before .before .answered2 .given .1) (a .at) (a .out .now) (c .before .before .put-refusal .last .0) (c .before .before .put-refusal .ensures)
+    written-refusal (a .p .items) (a .p .labels) (a .p .k) (a .levels .now) (take (a .p .entries) (a .entries .now)) (a .tokens .now) (a .answers .now) (a .area .now) (c .before .before .before .before .before .before .before .before .before .before .before .before .before .before .before .before .before .table-end .result) (c .before .before .before .before .before .before .before .before .before .before .before .before .before .before .before .before .table-end2 .result) (c .before .before .before .before .before .before .before .before .before .before .before .before .before .before .before .before .before .table-end .ensures) (c .before .before .before .before .before .before .before .before .before .before .before .before .before .before .before .before .table-end2 .ensures) (q .some-level) (q .answers-lent) (q .area-lent) _ (c .before .before .before .before .before .before .before .before .before .before .before .stored .result) (c .before .before .before .before .before .before .before .before .before .before .before .stored .ensures .result) (c .before .before .before .before .before .answered2 .given .1) (a .at) (a .out .now) (c .before .before .put-refusal .last .0) (q .room) (c .before .before .put-refusal .ensures)
 
 pub ask-tokens-spec : {M : Type 1} → statement M
 ask-tokens-spec =

@@ -53,8 +53,7 @@ returns-2 : tie.Need-returns-2
 returns-2 c =
     λ levels entries.
     let a = c .before .before .before .before .before .before .before .before .args in
-    comes-as (badFrame (a .number)) (onEdge (badFrame (a .number)) (a .source) (a .target) (a .label) (stageOf (a .p) (a .edges .now) levels entries)) (c .before .before .bad-frame .result) (a .edges .now) levels entries (a .out .now) (c .before .before .bad-frame .last .1 .0)
-    (edge-opening (a .p) (a .source) (a .target) (a .label) (a .number) (a .edges .now) levels entries (c .before .before .before .before .enum-told .given .1)) (c .before .before .bad-frame .ensures (a .edges .now) levels entries)
+    comes-as (edge-opening (a .p) (a .source) (a .target) (a .label) (a .number) (a .edges .now) levels entries (c .before .before .before .before .enum-told .given .1)) (c .before .before .bad-frame .ensures (a .edges .now) levels entries)
 
 same-length-3 : tie.Need-same-length-3
 same-length-3 c = search needs
@@ -63,8 +62,7 @@ returns-3 : tie.Need-returns-3
 returns-3 c =
     λ levels entries.
     let a = c .before .before .before .before .before .before .before .before .before .args in
-    comes-as (badFrame (a .number)) (onEdge (badFrame (a .number)) (a .source) (a .target) (a .label) (stageOf (a .p) (a .edges .now) levels entries)) (c .before .before .bad-frame2 .result) (a .edges .now) levels entries (a .out .now) (c .before .before .bad-frame2 .last .1 .0)
-    (edge-over (a .p) (a .source) (a .target) (a .label) (a .number) (a .edges .now) levels entries (c .before .before .before .before .before .enum-told2 .given .1) (c .before .before .before .before .before .before .before .before .before .pre .0) (c .before .before .before .before .before .before .before .before .before .pre .1) (c .before .before .before .before .if1 .left)) (c .before .before .bad-frame2 .ensures (a .edges .now) levels entries)
+    comes-as (edge-over (a .p) (a .source) (a .target) (a .label) (a .number) (a .edges .now) levels entries (c .before .before .before .before .before .enum-told2 .given .1) (c .before .before .before .before .before .before .before .before .before .pre .0) (c .before .before .before .before .before .before .before .before .before .pre .1) (c .before .before .before .before .if1 .left)) (c .before .before .bad-frame2 .ensures (a .edges .now) levels entries)
 
 same-length-4 : tie.Need-same-length-4
 same-length-4 c = search needs
@@ -73,8 +71,7 @@ returns-4 : tie.Need-returns-4
 returns-4 c =
     λ levels entries.
     let a = c .before .before .before .before .before .before .before .before .args in
-    comes-as (badFrame (a .number)) (onEdge (badFrame (a .number)) (a .source) (a .target) (a .label) (stageOf (a .p) (a .edges .now) levels entries)) (c .before .before .bad-frame3 .result) (a .edges .now) levels entries (a .out .now) (c .before .before .bad-frame3 .last .1 .0)
-    (edge-answering (a .p) (a .source) (a .target) (a .label) (a .number) (a .edges .now) levels entries (c .before .before .before .before .enum-told3 .given .1)) (c .before .before .bad-frame3 .ensures (a .edges .now) levels entries)
+    comes-as (edge-answering (a .p) (a .source) (a .target) (a .label) (a .number) (a .edges .now) levels entries (c .before .before .before .before .enum-told3 .given .1)) (c .before .before .bad-frame3 .ensures (a .edges .now) levels entries)
 
 same-length-5 : tie.Need-same-length-5
 same-length-5 c = search needs
@@ -83,8 +80,7 @@ returns-5 : tie.Need-returns-5
 returns-5 c =
     λ levels entries.
     let a = c .before .before .before .before .before .before .before .before .args in
-    comes-as (badFrame (a .number)) (onEdge (badFrame (a .number)) (a .source) (a .target) (a .label) (stageOf (a .p) (a .edges .now) levels entries)) (c .before .before .bad-frame4 .result) (a .edges .now) levels entries (a .out .now) (c .before .before .bad-frame4 .last .1 .0)
-    (edge-stopped (a .p) (a .source) (a .target) (a .label) (a .number) (a .edges .now) levels entries (c .before .before .before .before .enum-told4 .given .1)) (c .before .before .bad-frame4 .ensures (a .edges .now) levels entries)
+    comes-as (edge-stopped (a .p) (a .source) (a .target) (a .label) (a .number) (a .edges .now) levels entries (c .before .before .before .before .enum-told4 .given .1)) (c .before .before .bad-frame4 .ensures (a .edges .now) levels entries)
 
 pub on-edge-spec : {M : Type 1} → statement M
 on-edge-spec =

@@ -40,8 +40,7 @@ returns-2 : tie.Need-returns-2
 returns-2 c =
     λ edges levels entries.
     let a = c .before .before .before .before .before .before .before .before .args in
-    comes-as (badFrame (a .number)) (onSizes (badFrame (a .number)) (a .items) (a .labels) (a .k) (stageOf (a .p) edges levels entries)) (c .before .before .bad-frame .result) edges levels entries (a .out .now) (c .before .before .bad-frame .last .1 .0)
-    (sizes-over (a .p) (a .items) (a .labels) (a .k) (a .number) edges levels entries (c .before .before .before .before .before .enum-told .given .1) (c .before .before .before .before .if1 .left)) (c .before .before .bad-frame .ensures edges levels entries)
+    comes-as (sizes-over (a .p) (a .items) (a .labels) (a .k) (a .number) edges levels entries (c .before .before .before .before .before .enum-told .given .1) (c .before .before .before .before .if1 .left)) (c .before .before .bad-frame .ensures edges levels entries)
 
 same-length-2 : tie.Need-same-length-2
 same-length-2 c = search needs
@@ -50,8 +49,7 @@ returns-3 : tie.Need-returns-3
 returns-3 c =
     λ edges levels entries.
     let a = c .before .before .before .before .before .before .before .args in
-    comes-as (badFrame (a .number)) (onSizes (badFrame (a .number)) (a .items) (a .labels) (a .k) (stageOf (a .p) edges levels entries)) (c .before .before .bad-frame2 .result) edges levels entries (a .out .now) (c .before .before .bad-frame2 .last .1 .0)
-    (sizes-gathering (a .p) (a .items) (a .labels) (a .k) (a .number) edges levels entries (c .before .before .before .before .enum-told2 .given .1)) (c .before .before .bad-frame2 .ensures edges levels entries)
+    comes-as (sizes-gathering (a .p) (a .items) (a .labels) (a .k) (a .number) edges levels entries (c .before .before .before .before .enum-told2 .given .1)) (c .before .before .bad-frame2 .ensures edges levels entries)
 
 same-length-3 : tie.Need-same-length-3
 same-length-3 c = search needs
@@ -60,8 +58,7 @@ returns-4 : tie.Need-returns-4
 returns-4 c =
     λ edges levels entries.
     let a = c .before .before .before .before .before .before .before .args in
-    comes-as (badFrame (a .number)) (onSizes (badFrame (a .number)) (a .items) (a .labels) (a .k) (stageOf (a .p) edges levels entries)) (c .before .before .bad-frame3 .result) edges levels entries (a .out .now) (c .before .before .bad-frame3 .last .1 .0)
-    (sizes-answering (a .p) (a .items) (a .labels) (a .k) (a .number) edges levels entries (c .before .before .before .before .enum-told3 .given .1)) (c .before .before .bad-frame3 .ensures edges levels entries)
+    comes-as (sizes-answering (a .p) (a .items) (a .labels) (a .k) (a .number) edges levels entries (c .before .before .before .before .enum-told3 .given .1)) (c .before .before .bad-frame3 .ensures edges levels entries)
 
 same-length-4 : tie.Need-same-length-4
 same-length-4 c = search needs
@@ -70,8 +67,7 @@ returns-5 : tie.Need-returns-5
 returns-5 c =
     λ edges levels entries.
     let a = c .before .before .before .before .before .before .before .args in
-    comes-as (badFrame (a .number)) (onSizes (badFrame (a .number)) (a .items) (a .labels) (a .k) (stageOf (a .p) edges levels entries)) (c .before .before .bad-frame4 .result) edges levels entries (a .out .now) (c .before .before .bad-frame4 .last .1 .0)
-    (sizes-stopped (a .p) (a .items) (a .labels) (a .k) (a .number) edges levels entries (c .before .before .before .before .enum-told4 .given .1)) (c .before .before .bad-frame4 .ensures edges levels entries)
+    comes-as (sizes-stopped (a .p) (a .items) (a .labels) (a .k) (a .number) edges levels entries (c .before .before .before .before .enum-told4 .given .1)) (c .before .before .bad-frame4 .ensures edges levels entries)
 
 pub on-sizes-spec : {M : Type 1} → statement M
 on-sizes-spec =
