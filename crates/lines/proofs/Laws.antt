@@ -5,3 +5,4 @@ pub mod Asking
 pub mod Building
 pub mod Turns
 pub mod Steps
+pub mod Feeding

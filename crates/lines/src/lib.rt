@@ -1,5 +1,6 @@
 // What `answer` does with its input: a line is read as a frame, the run goes on by one turn, and a text is printed.
 pub mod asking; // a query, answered from the stored tables
+pub mod feeding; // the bytes up to the next text, and the end of the input
 pub mod frames; // what a line says
 pub mod stages; // what a line that is no query does
 pub mod steps; // a byte, and the end of the input

@@ -1,11 +1,10 @@
 // The steps of the machine: one byte, the bytes up to the next text, and the end of the input.
 ghost use mathlib.Core.Path.{_≡_};
 ghost use mathlib.Core.List.{List};
-ghost use Prim.Native.Nat.{ℕ, _≤_, _<_};
+ghost use Prim.Native.Nat.{ℕ, _≤_};
 ghost use lib.ListN.{length};
-ghost use Rattle.lines.specs.Machine.{isStopped, beginning, nextLine, endLine, keep, byte, lastLine, ended};
-ghost use Rattle.lines.specs.Standing.{stageOf, machineOf, Stands, Steps, Lent, Written, Advances};
-use crate::Advance;
+ghost use Rattle.lines.specs.Machine.{isStopped, beginning, nextLine, endLine, keep, byte};
+ghost use Rattle.lines.specs.Standing.{stageOf, machineOf, Stands, Steps, Lent};
 use crate::Phase;
 use crate::Progress;
 use crate::State;
@@ -21,7 +20,7 @@ const MOST_DIGITS: usize = 512;
 const LAST_LINE: u32 = 4294967295;
 
 // The number of the next line.
-fn next_line(lines: u32) -> u32
+pub fn next_line(lines: u32) -> u32
     ensures { λ r. ⌜ r ≡ nextLine lines ⌝ }
 {
     if lines < LAST_LINE { lines + 1 } else { lines }
@@ -46,7 +45,7 @@ pub fn start() -> State
 }
 
 // The line in hand ends.
-fn end_line(
+pub fn end_line(
     s: State,
     part: &[u8],
     edges: &mut [u32],
@@ -121,7 +120,7 @@ fn keep_byte(s: State, b: u8, part: &mut [u8], out: &mut [u8]) -> Taken
 }
 
 // Whether the rest is unread.
-fn is_stopped(p: Progress) -> bool
+pub fn is_stopped(p: Progress) -> bool
     ensures { λ r. ⌜ ((edges levels entries : List ℕ) → r ≡ isStopped (stageOf p edges levels entries)) ⌝ }
 {
     let phase = p.phase;
@@ -134,7 +133,7 @@ fn is_stopped(p: Progress) -> bool
 }
 
 // One byte; after a stop the rest is unread.
-fn take_byte(
+pub fn take_byte(
     s: State,
     b: u8,
     part: &mut [u8],
