@@ -1,0 +1,152 @@
+-- Bytes taken one after the other, and the end of the input.
+use Prim.Native.Nat.{ℕ, suc, _+_, _≤_, _<_}
+use mathlib.Core.Path.{_≡_, refl, sym, ap, _∙_}
+use mathlib.Core.List.{List, [], _∷_, _++_}
+use mathlib.Core.Bool.{true, false}
+use native.Mathlib.Numerals.{add-one}
+use native.Mathlib.Omega.{arith}
+use lib.ListN.{length, getD, take, drop, drop-of-length-le}
+use lib.Seq.{sets, sets-eq, take-at, drop-cons, length-take-le, length-sets}
+use Rattle.lines.specs.declared.Phase.the-variants.{Opening, Gathering, Answering, Stopped}
+use Rattle.lines.specs.declared.Moved.{Moved}
+use Rattle.lines.specs.declared.State.{State}
+use Rattle.lines.specs.declared.Taken.{Taken}
+use Rattle.lines.specs.declared.Advance.{Advance}
+use Rattle.lines.specs.Machine.{Stage, Turn, builds, badFrame, isStopped, Machine, nextLine, Fed, endLine, byte, after, feed, lastBy, lastLine, ended}
+use Rattle.lines.specs.Standing.{stageBy, stageOf, Comes, machineOf, Stands, Steps, Lent, Written, Advances}
+use Rattle.lines.proofs.Laws.Steps.{steps-as}
+
+-- one byte of a list of bytes
+pub feed-at : (m : Machine) (l : List ℕ) (i : ℕ) → i < length l → feed m (drop i l) ≡ after (byte m (getD l i 0) .text) (feed (byte m (getD l i 0) .machine) (drop (i + 1) l))
+unfolding feed
+feed-at m l i h = rw (add-one, drop-cons l i 0 h)
+
+-- nothing was printed
+none-of : (l : List ℕ) → length l ≡ 0 → l ≡ []
+none-of [] e = refl
+none-of (x ∷ l) e = absurd (omega (arith, e))
+
+after-none : (f : Fed) → after [] f ≡ f
+unfolding after
+after-none f = refl
+
+-- the text at the front of a list
+pub text-front : (text old new : List ℕ) (n : ℕ) → n ≡ length text → n ≤ length old → new ≡ sets old 0 text → take n new ≡ text
+text-front text old new n e h w =
+    ap (take n) (w ∙ sets-eq text old 0 (omega (arith, e))) ∙ take-at text (drop (0 + length text) old) n (sym e)
+
+-- what the loop keeps: the rest of the input, fed to the machine, is what it was to be
+pub record Looped (input : List ℕ) (from i : ℕ) (t : State) (part edges levels starts order entries area answers out : List ℕ) (goal : Fed) : Type 0 where
+  pub behind : from ≤ i
+  pub within : i ≤ length input
+  pub stands : Stands t
+  pub part-lent : length part ≡ 512
+  pub lent : Lent edges levels starts order entries area answers out
+  pub fed : feed (machineOf t part edges levels entries) (drop i input) ≡ goal
+
+module _ (m : Machine) (input : List ℕ) (i : ℕ) (r : Taken) (part edges levels entries old new : List ℕ) (h : i < length input) (s : Steps (byte m (getD input i 0)) r part edges levels entries old new) where
+  pub step-silent : r .many ≡ 0 → feed (machineOf (r .state) part edges levels entries) (drop (i + 1) input) ≡ feed m (drop i input)
+  step-silent e =
+      ap (λ (n : Machine). feed n (drop (i + 1) input)) (s .machine)
+      ∙ sym (feed-at m input i h
+      ∙ (ap (λ (l : List ℕ). after l (feed (byte m (getD input i 0) .machine) (drop (i + 1) input))) (none-of (byte m (getD input i 0) .text) (sym (s .many) ∙ e))
+      ∙ after-none (feed (byte m (getD input i 0) .machine) (drop (i + 1) input))))
+
+  pub step-printed : feed m (drop i input) ≡ after (take (r .many) new) (feed (machineOf (r .state) part edges levels entries) (drop (i + 1) input))
+  step-printed =
+      feed-at m input i h
+      ∙ (ap (λ (l : List ℕ). after l (feed (byte m (getD input i 0) .machine) (drop (i + 1) input))) (sym (text-front (byte m (getD input i 0) .text) old new (r .many) (s .many) (s .inside) (s .text)))
+      ∙ ap (λ (n : Machine). after (take (r .many) new) (feed n (drop (i + 1) input))) (sym (s .machine)))
+
+-- the input has ended in the loop
+pub fed-whole : (goal f : Fed) (out : List ℕ) → f ≡ goal → goal ≡ after (take 0 out) f
+unfolding after
+fed-whole goal f out e = sym e
+
+-- the last line
+last-none : (m : Machine) (l : List ℕ) → length l ≡ 0 → lastBy m l ≡ record { machine = m; text = [] }
+unfolding lastBy
+last-none m [] h = refl
+last-none m (b ∷ l) h = absurd (omega (arith, h))
+
+module _ (s : State) (part edges levels entries : List ℕ) (f : Stands s) where
+  pub last-stopped : isStopped (stageOf (s .progress) edges levels entries) ≡ true → (old : List ℕ)
+      → Steps (lastLine (machineOf s part edges levels entries)) (record { state = s; many = 0 }) part edges levels entries old old
+  unfolding lastLine machineOf
+  last-stopped e old = rw e (record { machine = refl; many = refl; text = refl; inside = omega arith; stands = f })
+
+  pub last-empty : isStopped (stageOf (s .progress) edges levels entries) ≡ false → s .held ≡ 0 → (old : List ℕ)
+      → Steps (lastLine (machineOf s part edges levels entries)) (record { state = s; many = 0 }) part edges levels entries old old
+  unfolding lastLine machineOf
+  last-empty e h old =
+      let same : lastLine (machineOf s part edges levels entries) ≡ record { machine = machineOf s part edges levels entries; text = [] } =
+      rw e (last-none (machineOf s part edges levels entries) (take (s .held) part) (ap (λ (k : ℕ). length (take k part)) h)) in
+      steps-as same
+      (record { machine = refl; many = refl; text = refl; inside = omega arith; stands = f })
+
+last-some : (m : Machine) (l : List ℕ) → 0 < length l → lastBy m l ≡ endLine m
+unfolding lastBy
+last-some m [] h = absurd (omega arith)
+last-some m (b ∷ l) h = refl
+
+pub last-held : (s : State) (part edges levels entries : List ℕ) → Stands s → length part ≡ 512 → isStopped (stageOf (s .progress) edges levels entries) ≡ false → (s .held ≡ 0 → ⊥)
+    → lastLine (machineOf s part edges levels entries) ≡ endLine (machineOf s part edges levels entries)
+unfolding lastLine machineOf
+last-held s part edges levels entries f n e h =
+    rw e (last-some (machineOf s part edges levels entries) (take (s .held) part) (some (s .held) h (length-take-le (s .held) part (omega (arith, f .held-fits, n)))))
+  where
+    some : (k : ℕ) → (k ≡ 0 → ⊥) → {n : ℕ} → n ≡ k → 0 < n
+    some k h {n} e = omega (arith, h, e)
+
+-- the end of the input, by the phase
+written-comes : (t : Turn) (r : Moved) (edges levels entries old new : List ℕ) → Comes t r edges levels entries old new → Written (t .text) (r .many) 0 old new
+written-comes t r edges levels entries old new h = record { size = h .many; bytes = h .text; inside = omega (arith, h .inside) }
+
+written-as : {t u : List ℕ} {n at : ℕ} {old new : List ℕ} → u ≡ t → Written t n at old new → Written u n at old new
+written-as e h = rw e h
+
+module _ (s : State) (part edges levels entries : List ℕ) where
+  abbrev m : Machine
+  m = machineOf s part edges levels entries
+
+  pub ended-opening : s .progress .phase ≡ Opening → (r : Moved) (number : ℕ) (edges′ levels′ entries′ old new : List ℕ) → number ≡ nextLine (s .lines)
+      → Comes (badFrame number) r edges′ levels′ entries′ old new → Written (ended m (stageOf (s .progress) edges levels entries)) (r .many) 0 old new
+  unfolding ended stageOf stageBy machineOf
+  ended-opening e r number edges′ levels′ entries′ old new n h =
+      rw e (written-as (ap (λ (k : ℕ). badFrame k .text) (sym n)) (written-comes (badFrame number) r edges′ levels′ entries′ old new h))
+
+  pub ended-gathering : s .progress .phase ≡ Gathering → (r : Moved) (edges′ levels′ entries′ old new : List ℕ)
+      → Comes (builds (s .progress .items) (s .progress .labels) (s .progress .k) (take (s .progress .edges) edges)) r edges′ levels′ entries′ old new
+      → Written (ended m (stageOf (s .progress) edges levels entries)) (r .many) 0 old new
+  unfolding ended stageOf stageBy
+  ended-gathering e r edges′ levels′ entries′ old new h =
+      rw e (written-comes (builds (s .progress .items) (s .progress .labels) (s .progress .k) (take (s .progress .edges) edges)) r edges′ levels′ entries′ old new h)
+
+  pub ended-answering : s .progress .phase ≡ Answering → (old : List ℕ) → Written (ended m (stageOf (s .progress) edges levels entries)) 0 0 old old
+  unfolding ended stageOf stageBy
+  ended-answering e old = rw e (record { size = refl; bytes = refl; inside = omega arith })
+
+  pub ended-stopped : s .progress .phase ≡ Stopped → (old : List ℕ) → Written (ended m (stageOf (s .progress) edges levels entries)) 0 0 old old
+  unfolding ended stageOf stageBy
+  ended-stopped e old = rw e (record { size = refl; bytes = refl; inside = omega arith })
+
+-- lists that keep their lengths
+pub lent-kept : {edges levels starts order entries area answers out edges′ levels′ starts′ order′ entries′ area′ answers′ out′ : List ℕ}
+    → length edges′ ≡ length edges → length levels′ ≡ length levels → length starts′ ≡ length starts → length order′ ≡ length order → length entries′ ≡ length entries
+    → length area′ ≡ length area → length answers′ ≡ length answers → length out′ ≡ length out
+    → Lent edges levels starts order entries area answers out → Lent edges′ levels′ starts′ order′ entries′ area′ answers′ out′
+lent-kept e l s o n a w u h =
+    let r = h .rooms in
+    record {
+      rooms =
+          record {
+            edges-lent = e ∙ r .edges-lent;
+            levels-lent = l ∙ r .levels-lent;
+            starts-lent = s ∙ r .starts-lent;
+            order-lent = o ∙ r .order-lent;
+            entries-lent = n ∙ r .entries-lent;
+            area-lent = a ∙ r .area-lent;
+            out-lent = u ∙ r .out-lent;
+          };
+      answers-lent = w ∙ h .answers-lent;
+    }

@@ -1,0 +1,134 @@
+// The input, taken byte by byte up to the next text, and its end.
+ghost use mathlib.Core.Path.{_≡_};
+ghost use mathlib.Core.List.{List};
+ghost use Prim.Native.Nat.{ℕ, _<_};
+ghost use lib.ListN.{length};
+ghost use Rattle.lines.specs.Machine.{lastLine, ended};
+ghost use Rattle.lines.specs.Standing.{stageOf, machineOf, Stands, Steps, Rooms, Lent, Written, Advances};
+use crate::Advance;
+use crate::Phase;
+use crate::State;
+use crate::Taken;
+use crate::stages;
+use crate::steps;
+use crate::turns;
+
+// Takes bytes of the input from a place on, until a text is to be printed or the input ends.
+pub fn advance(
+    s: State,
+    input: &[u8],
+    from: usize,
+    part: &mut [u8],
+    edges: &mut [u32],
+    levels: &mut [u32],
+    starts: &mut [u32],
+    order: &mut [u32],
+    entries: &mut [u32],
+    area: &mut [u8],
+    answers: &mut [u32],
+    out: &mut [u8],
+) -> Advance
+    requires { ⌜ Stands s × (from < length (now input)) × (length (now part) ≡ 512) × Lent (now edges) (now levels) (now starts) (now order) (now entries) (now area) (now answers) (now out) ⌝ }
+    ensures { λ r. ⌜ Advances (now (input .entry)) from (machineOf s (now (part .entry)) (now (edges .entry)) (now (levels .entry)) (now (entries .entry))) r (now (part .exit)) (now (edges .exit)) (now (levels .exit)) (now (entries .exit)) (now (out .exit)) ⌝ }
+{
+    let mut t = s;
+    let mut i = from;
+    while i < input.len() {
+        let taken = steps::take_byte(
+            t,
+            input[i],
+            part,
+            edges,
+            levels,
+            starts,
+            order,
+            entries,
+            area,
+            answers,
+            out,
+        );
+        t = taken.state;
+        i += 1;
+        if 0 < taken.many {
+            return Advance {
+                state: t,
+                next: i,
+                many: taken.many,
+            };
+        }
+    }
+    Advance {
+        state: t,
+        next: i,
+        many: 0,
+    }
+}
+
+// The last line may lack its end; a final line end opens no line.
+pub fn last_line(
+    s: State,
+    part: &[u8],
+    edges: &mut [u32],
+    levels: &mut [u32],
+    starts: &mut [u32],
+    order: &mut [u32],
+    entries: &mut [u32],
+    area: &mut [u8],
+    answers: &mut [u32],
+    out: &mut [u8],
+) -> Taken
+    requires { ⌜ Stands s × (length (now part) ≡ 512) × Lent (now edges) (now levels) (now starts) (now order) (now entries) (now area) (now answers) (now out) ⌝ }
+    ensures { λ r. ⌜ Steps (lastLine (machineOf s (now (part .entry)) (now (edges .entry)) (now (levels .entry)) (now (entries .entry)))) r (now (part .entry)) (now (edges .exit)) (now (levels .exit)) (now (entries .exit)) (now (out .entry)) (now (out .exit)) ⌝ }
+{
+    let p = s.progress;
+    if steps::is_stopped(p) {
+        return Taken { state: s, many: 0 };
+    }
+    if s.held == 0 {
+        return Taken { state: s, many: 0 };
+    }
+    steps::end_line(
+        s,
+        part,
+        edges,
+        levels,
+        starts,
+        order,
+        entries,
+        area,
+        answers,
+        out,
+    )
+}
+
+// At the end of input the tables are built if no query asked for them; an input with no line at all is a bad frame. Answers how many
+// bytes of text stand at the front of the output.
+pub fn end_input(
+    s: State,
+    edges: &[u32],
+    levels: &mut [u32],
+    starts: &mut [u32],
+    order: &mut [u32],
+    entries: &mut [u32],
+    area: &mut [u8],
+    out: &mut [u8],
+) -> usize
+    requires { ⌜ Stands s × Rooms (now edges) (now levels) (now starts) (now order) (now entries) (now area) (now out) ⌝ }
+    ensures { λ r. ⌜ ((part : List ℕ) → Written (ended (machineOf s part (now (edges .entry)) (now (levels .entry)) (now (entries .entry))) (stageOf (s .progress) (now (edges .entry)) (now (levels .entry)) (now (entries .entry)))) r 0 (now (out .entry)) (now (out .exit))) ⌝ }
+{
+    let p = s.progress;
+    let phase = p.phase;
+    match phase {
+        Phase::Opening => {
+            let number = steps::next_line(s.lines);
+            let moved = stages::bad_frame(number, out);
+            moved.many
+        }
+        Phase::Gathering => {
+            let moved = turns::build_tables(p, edges, levels, starts, order, entries, area, out);
+            moved.many
+        }
+        Phase::Answering => 0,
+        Phase::Stopped => 0,
+    }
+}
