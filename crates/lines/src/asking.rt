@@ -40,7 +40,7 @@ fn ask_tokens(
     let used = p.entries;
     let to = table_end(items, p.k);
     let from = to - table_end(items, 1);
-    let answered = index::answers::stored(
+    let answered = index::stored(
         items,
         labels,
         &levels[from..to],

@@ -33,7 +33,7 @@ pub fn build_tables(
     let labels = p.labels;
     let k = p.k;
     let used = p.edges;
-    let built = index::tables::build(
+    let built = index::build(
         items,
         labels,
         k,
