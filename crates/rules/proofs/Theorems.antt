@@ -12,4 +12,5 @@ pub mod Lists
 pub mod Entries
 pub mod Examples
 pub mod Errors
+pub mod Orders
 pub mod Tokens
