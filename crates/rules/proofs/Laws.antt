@@ -25,6 +25,7 @@ pub mod ClassLists
 pub mod Walks
 pub mod Reading
 pub mod Postfix
+pub mod Spelling
 pub mod Rules
 pub mod Verdict
 pub mod Faults
