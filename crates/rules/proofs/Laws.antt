@@ -12,6 +12,7 @@ pub mod Query
 pub mod Bisim
 pub mod Agree
 pub mod Numbering
+pub mod Numbered
 pub mod Levels
 pub mod Accepted
 pub mod AllOrNone
