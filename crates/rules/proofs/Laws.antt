@@ -33,3 +33,4 @@ pub mod Faults
 pub mod Links
 pub mod Calls
 pub mod Dense
+pub mod Fixed
