@@ -25,6 +25,7 @@ pub mod ClassAnswer
 pub mod ClassLists
 pub mod Walks
 pub mod Reading
+pub mod Scanner
 pub mod Postfix
 pub mod Spelling
 pub mod Rules
