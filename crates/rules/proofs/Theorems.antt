@@ -8,6 +8,7 @@ pub mod ClassAnswer
 pub mod Builder
 pub mod Edges
 pub mod Classes
+pub mod Tables
 pub mod Lists
 pub mod Entries
 pub mod Examples
