@@ -52,3 +52,8 @@ pub use sizes::{
     MAX_LEVELS, MAX_SYMBOLS, MAX_TOKENS, MAX_WAITING,
 };
 pub use tables::{Built, Stored, Tables, TablesMut};
+
+/// The worked calls of README.md, as tests.
+#[cfg(doctest)]
+#[doc = include_str!("../README.md")]
+struct Readme;
