@@ -56,17 +56,14 @@ fn main() -> Result<(), Refusal> {
     for (source, target, label) in EDGES {
         register.add(source, target, label);
     }
-
-    let index = register.index(2)?;
+    let made = register.index(2)?;
+    // Tables that come from a file or from elsewhere are taken over in just this way.
+    let mut index = register.accept(2, made.tables())?;
     let built = index.built();
     println!(
-        "{} classes, {} connected pairs, {} entries",
+        "the check accepts {} classes, {} connected pairs, {} entries",
         built.classes, built.pairs, built.entries
     );
-
-    // Tables that come from a file or from elsewhere are taken over in just this way.
-    let mut index = register.accept(2, index.tables())?;
-    println!("the check accepts the tables");
 
     let covered = Query::step(HAS_PART).then(Query::step(CERTIFIED_BY));
     ask(
@@ -78,29 +75,34 @@ fn main() -> Result<(), Refusal> {
     ask(&mut index, "what could replace a lift's part", &spare)?;
     let same_day = Query::step(VISITED_ON).then(Query::back(VISITED_ON));
     let same_part = Query::step(HAS_PART).then(Query::back(HAS_PART));
+    let one_trip = same_day.and(same_part);
     ask(
         &mut index,
         "visited on one day, and sharing a part",
-        &same_day.and(same_part),
+        &one_trip,
     )?;
 
     // The same by classes: all pairs of a class meet a query of diameter up to 2, or none does.
     for class in index.classes(&covered)?.to_vec() {
-        println!(
-            "covered as class {class}: positions {:?}",
-            index.pairs(class)?
-        );
+        println!("covered, class {class}: {:?}", index.pairs(class)?);
     }
+    ask_too_far(
+        &mut register,
+        &mut index,
+        covered.then(Query::back(CERTIFIED_BY)),
+    )
+}
 
-    // A query that goes too far for the classes of two levels is refused, and the index goes on.
-    let far = covered.then(Query::back(CERTIFIED_BY));
+/// A query of diameter 3 goes too far for the classes of two levels, not for the pairs.
+fn ask_too_far(register: &mut Register, index: &mut Index, far: Query) -> Result<(), Refusal> {
     match index.classes(&far) {
-        Err(refusal) => println!("of diameter {}: {refusal}", far.diameter()),
-        Ok(classes) => println!("of diameter {}: {classes:?}", far.diameter()),
+        Err(refusal) => println!("by classes: {refusal}"),
+        Ok(classes) => println!("by classes: {classes:?}"),
     }
     let from_edges = register.ask(&far)?;
-    assert_eq!(index.ask(&far)?, from_edges);
-    println!("from tables and edges alike: {} pairs", from_edges.len());
+    let from_tables = index.ask(&far)?;
+    assert_eq!(from_tables, from_edges);
+    println!("from tables and edges alike: {} pairs", from_tables.len());
     Ok(())
 }
 

@@ -30,46 +30,45 @@ fn exact_lengths_are_enough() {
     assert_eq!(ask_class(&[1, 2, 32], 2, 144).result, Ok(vec![1, 2]));
 }
 
-#[test]
-fn the_largest_register() {
-    // a ring along label 7: pairs are equal, neighbours one way, neighbours the other way
-    let mut edges: Vec<u32> = (0..128)
-        .flat_map(|item| [item, (item + 1) % 128, 7])
-        .collect();
+/// A ring of 128 items along label 7, the last edge repeated as often as an edge table can hold it.
+/// Its pairs are equal, neighbours one way or neighbours the other way.
+fn ring() -> Vec<u32> {
+    let mut edges: Vec<u32> = (0..127).flat_map(|item| [item, item + 1, 7]).collect();
     while edges.len() < 3 * MAX_EDGES {
         edges.extend([127, 0, 7]);
     }
+    edges
+}
+
+#[test]
+fn the_largest_register() {
     let mut lent = Lent::new(MAX_ITEMS, 1, 8);
-    let built = lent.build(MAX_ITEMS, MAX_LABELS, 1, &edges).unwrap();
-    assert_eq!(
-        built,
-        Built {
-            classes: 3,
-            pairs: 3 * 128,
-            entries: 3
-        }
-    );
+    let built = lent.build(MAX_ITEMS, MAX_LABELS, 1, &ring()).unwrap();
+    assert_eq!((built.classes, built.pairs, built.entries), (3, 3 * 128, 3));
     assert_eq!(lent.entries[..6], [0, 1, 15, 2, 16, 3]);
     assert!(zeroed(&lent.area, area_len(MAX_ITEMS)));
     let tables = lent.tables().cut(built);
-    let last = class_pairs(2, tables.starts, tables.order).unwrap();
-    assert_eq!(last.len(), 128);
-    assert_eq!(pair(MAX_ITEMS, last[127]), (127, 0));
-    let mut answers = vec![FILL; order_len(MAX_ITEMS)];
-    let mut area = vec![FILL_BYTE; area_len(MAX_ITEMS)];
+    let neighbours = class_pairs(2, tables.starts, tables.order).unwrap();
+    assert_eq!(neighbours.len(), 128);
+    assert_eq!(pair(MAX_ITEMS, neighbours[127]), (127, 0));
+}
+
+#[test]
+fn a_query_on_the_largest_register() {
     let query = Query::step(7).then(Query::step(7));
-    let tables = tables.stored(MAX_ITEMS, 1);
-    let found = stored(
-        MAX_ITEMS,
-        MAX_LABELS,
-        tables,
-        query.tokens(),
-        &mut answers,
-        &mut area,
+    let tokens = query.tokens();
+    let asked = Asked::new(
+        order_len(MAX_ITEMS),
+        area_len(MAX_ITEMS),
+        |answers, area| {
+            direct(MAX_ITEMS, MAX_LABELS, &ring(), tokens, answers, area).map(<[u32]>::to_vec)
+        },
     );
-    let found = found.unwrap();
-    assert_eq!(found.len(), 128);
-    assert_eq!(found[0], position(MAX_ITEMS, 0, 2));
+    let found: Vec<u32> = (0..128)
+        .map(|item| position(MAX_ITEMS, item, (item + 2) % 128))
+        .collect();
+    assert_eq!(asked.result, Ok(found.clone()));
+    assert!(asked.holds(&found, area_len(MAX_ITEMS)));
 }
 
 /// Operands and operators make an odd number of tokens, so 63 are the most that are answered.

@@ -1,4 +1,4 @@
-//! Each refusal from each entry that can give it, with its values.
+//! Each refusal of build and check, with its values, and of the two entries that hand back a part.
 //! Where it comes before any work, nothing is written.
 
 mod common;
@@ -75,124 +75,10 @@ fn refusal_6_leaves_the_entries() {
     assert!(zeroed(&lent.area, 36));
 }
 
-/// Faulty queries on document 01's table, that each of the three entries refuses before work.
 #[test]
-fn refusals_7_to_11_of_queries() {
-    let nine = [[0; 8].as_slice(), &[1]].concat();
-    let faulty: [(&[u8], Refusal); 10] = [
-        (&[], Refusal::QueryLength),
-        (&[99; MAX_TOKENS + 1], Refusal::QueryLength),
-        (&[99; MAX_TOKENS], Refusal::Unknown { place: 0 }),
-        (&[1, 5], Refusal::Unknown { place: 1 }),
-        (&[0, 34], Refusal::Unknown { place: 1 }),
-        (&[32], Refusal::FewOperands { place: 0 }),
-        (&[1, 2, 32, 33, 99], Refusal::FewOperands { place: 3 }),
-        (&nine, Refusal::NinthOperand { place: 8 }),
-        (&[0; MAX_WAITING], Refusal::OperandsLeft),
-        (&[1, 2], Refusal::OperandsLeft),
-    ];
-    for (tokens, expected) in faulty {
-        for ask in [ask_direct, ask_stored, ask_class] {
-            // the working area is too short, but that comes later
-            let asked = ask(tokens, 9, 143);
-            assert_eq!(asked.result, Err(expected));
-            assert!(asked.untouched());
-        }
-    }
-}
-
-#[test]
-fn refusals_1_to_4_of_queries() {
-    let direct_on = |items, labels, edges: &[u32]| {
-        let asked = Asked::new(9, 150, |answers, area| {
-            direct(items, labels, edges, &[], answers, area).map(|part| part.to_vec())
-        });
-        assert!(asked.untouched());
-        asked.result.unwrap_err()
-    };
-    assert_eq!(direct_on(129, 2, &[0]), Refusal::Sizes);
-    assert_eq!(direct_on(4, 0, &[0]), Refusal::Sizes);
-    assert_eq!(direct_on(4, 2, &[0]), Refusal::EdgeCount);
-    assert_eq!(direct_on(4, 2, &[4, 0, 0]), Refusal::Edge { edge: 0 });
-    assert_eq!(direct_on(4, 2, &EDGES), Refusal::QueryLength);
-
-    let class_on = |items, labels, k| {
-        let asked = Asked::new(9, 150, |answers, area| {
-            class(items, labels, k, TABLES.stored(4, 2), &[], answers, area).map(<[u32]>::to_vec)
-        });
-        assert!(asked.untouched());
-        asked.result.unwrap_err()
-    };
-    assert_eq!(class_on(129, 2, 0), Refusal::Sizes);
-    assert_eq!(class_on(4, 9, 0), Refusal::Sizes);
-    assert_eq!(class_on(4, 2, 0), Refusal::LevelCount);
-    assert_eq!(class_on(4, 2, 5), Refusal::LevelCount);
-    assert_eq!(class_on(4, 2, 4), Refusal::QueryLength);
-
-    let stored_on = |items, labels| {
-        let asked = Asked::new(9, 150, |answers, area| {
-            stored(items, labels, TABLES.stored(4, 2), &[], answers, area).map(<[u32]>::to_vec)
-        });
-        assert!(asked.untouched());
-        asked.result.unwrap_err()
-    };
-    assert_eq!(stored_on(129, 2), Refusal::Sizes);
-    assert_eq!(stored_on(4, 0), Refusal::Sizes);
-    assert_eq!(stored_on(4, 2), Refusal::QueryLength);
-}
-
-#[test]
-fn refusal_5_of_queries() {
-    for ask in [ask_direct, ask_stored, ask_class] {
-        let asked = ask(&[1], 0, 143);
-        assert_eq!(asked.result, Err(Refusal::Room));
-        assert!(asked.untouched());
-    }
-    // tables without the level, and with a number too few
-    let short = Stored {
-        table: &LEVELS[..15],
-        entries: &ENTRIES,
-    };
-    for tables in [TABLES.stored(4, 3), TABLES.stored(4, 0), short] {
-        let by_pair = Asked::new(9, 150, |answers, area| {
-            stored(4, 2, tables, &[1], answers, area).map(<[u32]>::to_vec)
-        });
-        assert_eq!(by_pair.result, Err(Refusal::Room));
-        assert!(by_pair.untouched());
-        let by_class = Asked::new(9, 150, |answers, area| {
-            class(4, 2, 2, tables, &[1], answers, area).map(<[u32]>::to_vec)
-        });
-        assert_eq!(by_class.result, Err(Refusal::Room));
-        assert!(by_class.untouched());
-    }
-}
-
-#[test]
-fn refusal_12_of_class_and_lookup() {
-    // it comes before 5
-    let asked = ask_class(&[1, 2, 32, 1, 32], 9, 143);
-    assert_eq!(asked.result, Err(Refusal::TooLong));
-    assert!(asked.untouched());
-    assert_eq!(
-        lookup(&[99; MAX_SYMBOLS + 1], &ENTRIES),
-        Err(Refusal::TooLong)
-    );
-}
-
-#[test]
-fn refusal_13_of_queries() {
-    let asks = [ask_direct, ask_stored, ask_class];
-    for (ask, needed) in asks.into_iter().zip([4, 4, 2]) {
-        for room in 0..needed {
-            let asked = ask(&[1, 2, 32], room as usize, 150);
-            assert_eq!(asked.result, Err(Refusal::AnswerRoom { needed }));
-            assert!(asked.holds(&[], 144));
-        }
-    }
-}
-
-#[test]
-fn refusal_8_of_lookup() {
+fn refusals_12_and_8_of_lookup() {
+    let five = [99; MAX_SYMBOLS + 1];
+    assert_eq!(lookup(&five, &ENTRIES), Err(Refusal::TooLong));
     assert_eq!(
         lookup(&[1, 0], &ENTRIES),
         Err(Refusal::Unknown { place: 1 })
@@ -219,84 +105,49 @@ fn refusal_14_of_class_pairs() {
     assert_eq!(class_pairs(1, &[0, u32::MAX], &ORDER), refused);
 }
 
-/// Damaged tables of document 01's table: refused, and the area zero as far as it is asked for.
+/// Check on damaged tables of document 01's table: refused after work, so the area is zero as far
+/// as it is asked for.
+fn checked(tables: Tables) -> Refusal {
+    let mut area = [FILL_BYTE; 147];
+    let result = check(4, 2, 2, &EDGES, tables, &mut area);
+    assert!(zeroed(&area, 144));
+    result.unwrap_err()
+}
+
 #[test]
-fn refusals_15_16_17_of_check() {
-    let checked = |tables: Tables| {
-        let mut area = [FILL_BYTE; 147];
-        let result = check(4, 2, 2, &EDGES, tables, &mut area);
-        assert!(zeroed(&area, 144));
-        result.unwrap_err()
-    };
+fn refusal_15_of_check() {
+    let with = |levels: &[u32]| checked(Tables { levels, ..TABLES });
+    let fault = |level, position| Refusal::LevelFault { level, position };
     let mut levels = LEVELS;
     levels[16 + 9] = 7; // two above the largest before it, 5
-    let fault = Refusal::LevelFault {
-        level: 2,
-        position: 9,
-    };
-    assert_eq!(
-        checked(Tables {
-            levels: &levels,
-            ..TABLES
-        }),
-        fault
-    );
-    levels[1] = 1; // a pair of level 1 that is not connected
-    let fault = Refusal::LevelFault {
-        level: 1,
-        position: 1,
-    };
-    assert_eq!(
-        checked(Tables {
-            levels: &levels,
-            ..TABLES
-        }),
-        fault
-    );
+    assert_eq!(with(&levels), fault(2, 9));
+    levels[16 + 9] = 6; // a class of its own, but then the pair at 10 does not agree with it
+    assert_eq!(with(&levels), fault(2, 10));
+    levels[1] = 1; // a pair that is not connected within 1
+    assert_eq!(with(&levels), fault(1, 1));
+}
 
+#[test]
+fn refusal_16_of_check() {
+    let with_starts = |starts: &[u32]| checked(Tables { starts, ..TABLES });
+    let with_order = |order: &[u32]| checked(Tables { order, ..TABLES });
     let fault = |list, index| Refusal::ListFault { list, index };
     let mut starts = STARTS;
     starts[4] = 7;
+    assert_eq!(with_starts(&starts), fault(List::Starts, 4));
+    assert_eq!(with_starts(&STARTS[..10]), fault(List::Starts, 10));
+    assert_eq!(with_order(&[]), fault(List::Order, 0));
     assert_eq!(
-        checked(Tables {
-            starts: &starts,
-            ..TABLES
-        }),
-        fault(List::Starts, 4)
-    );
-    assert_eq!(
-        checked(Tables {
-            starts: &STARTS[..10],
-            ..TABLES
-        }),
-        fault(List::Starts, 10)
-    );
-    assert_eq!(
-        checked(Tables {
-            order: &[],
-            ..TABLES
-        }),
-        fault(List::Order, 0)
-    );
-    let long = [&ORDER[..], &[0]].concat();
-    assert_eq!(
-        checked(Tables {
-            order: &long,
-            ..TABLES
-        }),
+        with_order(&[&ORDER[..], &[0]].concat()),
         fault(List::Order, 16)
     );
+}
 
+#[test]
+fn refusal_17_of_check() {
+    let with = |entries: &[u32]| checked(Tables { entries, ..TABLES });
     let mut entries = ENTRIES;
     entries[27] = 5;
-    let wrong = checked(Tables {
-        entries: &entries,
-        ..TABLES
-    });
-    assert_eq!(wrong, Refusal::EntryFault { index: 27 });
-    let short = checked(Tables {
-        entries: &ENTRIES[..26],
-        ..TABLES
-    });
-    assert_eq!(short, Refusal::EntryFault { index: 26 });
+    assert_eq!(with(&entries), Refusal::EntryFault { index: 27 });
+    assert_eq!(with(&ENTRIES[..26]), Refusal::EntryFault { index: 26 });
 }
