@@ -14,4 +14,5 @@ pub mod Entries
 pub mod Examples
 pub mod Errors
 pub mod Orders
+pub mod Limits
 pub mod Tokens
