@@ -3,7 +3,7 @@
    A list is a pointer and a number of elements. It must be as long as its number says, aligned, and, also where the number is 0, not
    NULL. A list that a function may write (no const) overlaps no other list of the same call. Nothing else is asked: whatever numbers
    stand in the lists, each function ends, and answers or refuses as said here. The library keeps nothing between calls, takes no memory
-   but the caller's, and may be called by several threads at once on different lists.
+   but the caller's lists and the stack, and may be called by several threads at once on different lists.
 
    items is V (0..128), labels is L (1..8), k the number of levels (1..4). An edge is three numbers: source, target, label. The step
    along label l has the symbol 2l+1, against it 2l+2. The pair (v,u) has the position v*V+u.
