@@ -13,4 +13,6 @@ pub mod Lists
 pub mod Entries
 pub mod Examples
 pub mod Errors
+pub mod Orders
+pub mod Limits
 pub mod Tokens
