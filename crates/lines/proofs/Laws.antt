@@ -6,3 +6,5 @@ pub mod Building
 pub mod Turns
 pub mod Steps
 pub mod Feeding
+pub mod Lines
+pub mod Form

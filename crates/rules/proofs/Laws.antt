@@ -5,6 +5,8 @@ pub mod Listing
 pub mod Places
 pub mod Writing
 pub mod Put
+pub mod Fronts
+pub mod Bits
 pub mod Loops
 pub mod Graph
 pub mod Ends

@@ -14,3 +14,4 @@ pub mod Promises
 pub mod Numbers
 pub mod Published
 pub mod Writing
+pub mod Bits

@@ -8,7 +8,7 @@ use native.Mathlib.Omega.{arith}
 use lib.ListN.{getD}
 use Rattle.rules.specs.Graph.{Graph, connected}
 use Rattle.rules.specs.Rule.{Rule}
-use Rattle.rules.specs.Levels.{numberAt, numbering, agree, agreeAt, connectedAt, firstOf, levelOf, builtLevels, builtLevel}
+use Rattle.rules.specs.Levels.{numberAt, numbering, agreeAt, connectedAt, firstOf, levelOf, builtLevels, builtLevel}
 use Rattle.rules.specs.Published.{Walk, Bisimilar}
 use Rattle.rules.specs.Accept.{numberOk, levelOk, LevelAccepted, LevelsAccepted}
 use Rattle.rules.proofs.Laws.Places.{place-lt, place-row, place-column}
@@ -17,7 +17,7 @@ use Rattle.rules.proofs.Laws.Graph.{conn-walk, walk-conn}
 use Rattle.rules.proofs.Laws.Accepted.{accepted-at, connected-number, number-connected}
 use Rattle.rules.proofs.Laws.Bisim.{bisim-ends, bisim-steps, bisim-sym, bisim-there}
 use Rattle.rules.proofs.Laws.Levels.{level-is, level-written}
-use Rattle.rules.proofs.Laws.AllOrNone.{agree-bisim, accepted-bisim}
+use Rattle.rules.proofs.Laws.AllOrNone.{accepted-bisim}
 use Rattle.rules.proofs.Laws.Numbering
 use Rattle.rules.proofs.Laws.Numbered.{Equivalence, numbered-accepted}
 
@@ -157,14 +157,6 @@ module _ (ρ : Rule) (g : Graph) where
         λ e. accepted-bisim ρ g i T (builder-accepted i) i o (omega arith) v u x y hv hu hx hy e (connected-number ρ g i T (level-ok i o) v u hv hu ca),
         λ d. agree-same i v u x y o hv hu hx hy ca (walk-conn g x b) (bisim-agree i v u x y hv hu hx hy d),
       )
-
-  -- agreement over the builder's own tables of the levels below is path-bisimulation
-  pub agree-iff-bisim : (i v u x y : ℕ) → v < g .items → u < g .items → x < g .items → y < g .items
-      → (agree ρ g i (builtLevel ρ g) v u x y ≡ true) ↔ Bisimilar ρ g i v u x y
-  agree-iff-bisim i v u x y hv hu hx hy = (
-    λ e. agree-bisim ρ g i (builtLevel ρ g) (builder-accepted i) i (omega arith) v u x y hv hu hx hy (agree-find ρ g i (builtLevel ρ g) v u x y e),
-    λ d. agree-here ρ g i (builtLevel ρ g) v u x y (bisim-agree i v u x y hv hu hx hy d),
-  )
 
   -- accepted classes are the builder's or finer
   pub accepted-finer : (k : ℕ) (T : ℕ → List ℕ) → LevelsAccepted ρ g k T → (i : ℕ) → 0 < i → i ≤ k

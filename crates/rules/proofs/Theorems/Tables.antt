@@ -1,5 +1,5 @@
 -- Which tables the check accepts at a level, whoever made them: those numbered by any equivalence that gives agreement; and one table only for each way of putting the connected pairs into classes.
-use Prim.Native.Nat.{ℕ, _*_, _<_}
+use Prim.Native.Nat.{ℕ, _*_, _≤_, _<_}
 use mathlib.Core.Path.{_≡_, sym, _∙_}
 use mathlib.Core.Logic.{_↔_}
 use mathlib.Core.List.{List}
@@ -9,11 +9,11 @@ use borrow.Author.Tests.{eqb-true, eq-eqb}
 use lib.ListN.{length, getD}
 use Rattle.rules.specs.Graph.{Graph}
 use Rattle.rules.specs.Rule.{Rule}
-use Rattle.rules.specs.Levels.{connectedAt, agreeAt, numbering}
-use Rattle.rules.specs.Accept.{numberOk, LevelAccepted}
+use Rattle.rules.specs.Levels.{numberAt, connectedAt, agreeAt, numbering, builtLevel}
+use Rattle.rules.specs.Accept.{numberOk, LevelAccepted, LevelsAccepted}
 use Rattle.rules.proofs.Laws.Accepted.{right-at}
 use Rattle.rules.proofs.Laws.Numbered.{Equivalence, numbered-accepted}
-use Rattle.rules.proofs.Laws.Builder.{numbered-level}
+use Rattle.rules.proofs.Laws.Builder.{numbered-level, accepted-finer}
 use Rattle.rules.proofs.Laws.Fixed.{Dense, SameClasses, table-fixed}
 
 -- a table numbered by first position, by an equivalence that gives the relation which the test asks for, is right at each position
@@ -51,3 +51,10 @@ module _ (ρ : Rule) (g : Graph) (i : ℕ) (S T : ℕ → List ℕ) (s-ok : Leve
         );
         classes = like;
       })
+
+-- accepted classes are the builder's or finer: two pairs with one number in an accepted level have one number in the builder's
+pub accepted-or-finer : (ρ : Rule) (g : Graph) (k : ℕ) (T : ℕ → List ℕ) → LevelsAccepted ρ g k T → (i : ℕ) → 0 < i → i ≤ k
+    → (v u x y : ℕ) → v < g .items → u < g .items → x < g .items → y < g .items
+    → numberAt (g .items) (T i) v u ≡ numberAt (g .items) (T i) x y → 0 < numberAt (g .items) (T i) v u
+    → numberAt (g .items) (builtLevel ρ g i) v u ≡ numberAt (g .items) (builtLevel ρ g i) x y
+accepted-or-finer = accepted-finer

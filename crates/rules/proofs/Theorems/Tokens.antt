@@ -1,5 +1,5 @@
 -- Token lists and queries: an accepted list has one tree, it is that query written operands first, different queries have different tokens, and each is read back, or refused with 8 or 10.
-use Prim.Native.Nat.{ℕ, _≤_, _<_}
+use Prim.Native.Nat.{ℕ, _≤_}
 use mathlib.Core.Path.{_≡_, sym, _∙_}
 use mathlib.Core.List.{List, [], _++_}
 use lib.ListN.{length}
