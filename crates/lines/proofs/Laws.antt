@@ -6,3 +6,4 @@ pub mod Building
 pub mod Turns
 pub mod Steps
 pub mod Feeding
+pub mod Ending
