@@ -12,6 +12,7 @@ pub mod Query
 pub mod Bisim
 pub mod Agree
 pub mod Numbering
+pub mod Numbered
 pub mod Levels
 pub mod Accepted
 pub mod AllOrNone
@@ -24,10 +25,13 @@ pub mod ClassAnswer
 pub mod ClassLists
 pub mod Walks
 pub mod Reading
+pub mod Scanner
 pub mod Postfix
+pub mod Spelling
 pub mod Rules
 pub mod Verdict
 pub mod Faults
 pub mod Links
 pub mod Calls
 pub mod Dense
+pub mod Fixed

@@ -2,6 +2,7 @@ pub mod Finite
 pub mod Graph
 pub mod Query
 pub mod Reading
+pub mod Scanner
 pub mod Rule
 pub mod Levels
 pub mod Lists
