@@ -25,7 +25,8 @@ use Rattle.rules.proofs.Laws.Places.{row-lt, column-lt, square-le}
 use Rattle.area.specs.Packed.{pairIn, Slot, Only}
 use Rattle.area.proofs.Laws.Only.{holds-kept}
 use Rattle.area.proofs.Laws.Sets.{list-holds}
-use Rattle.query.specs.Evaluate.{sourceStep, Source, Evaluable, Evaluated}
+use Rattle.query.specs.Sets.{sourceStep, Source}
+use Rattle.query.specs.Evaluate.{Evaluable, Evaluated}
 use Rattle.query.proofs.Laws.Places.{slot-short}
 use Rattle.index.specs.Calls.{ended}
 use Rattle.index.specs.Telling.{Told}
