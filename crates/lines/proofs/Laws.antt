@@ -6,5 +6,9 @@ pub mod Building
 pub mod Turns
 pub mod Steps
 pub mod Feeding
+<<<<<<< HEAD
 pub mod Lines
 pub mod Form
+=======
+pub mod Ending
+>>>>>>> program
