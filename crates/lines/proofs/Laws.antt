@@ -6,9 +6,6 @@ pub mod Building
 pub mod Turns
 pub mod Steps
 pub mod Feeding
-<<<<<<< HEAD
 pub mod Lines
 pub mod Form
-=======
 pub mod Ending
->>>>>>> program
