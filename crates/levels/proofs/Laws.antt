@@ -4,6 +4,7 @@ pub mod Tables
 pub mod Areas
 pub mod Agreement
 pub mod Reach
+pub mod Rows
 pub mod Numbers
 pub mod Level
 pub mod Right

@@ -1,3 +1,4 @@
 pub mod Marks
 pub mod Chains
 pub mod Needs
+pub mod Rows

@@ -86,3 +86,7 @@ module _ (n i : ℕ) (levels : List ℕ) (st : Stands n levels i) (c : ℕ) {cou
 pub at-is : (ρ : Rule) (g : Graph) (i : ℕ) (T : ℕ → List ℕ) (p q : ℕ) → agree ρ g i T (p / g .items) (p % g .items) (q / g .items) (q % g .items) ≡ agreeAt ρ g i T p q
 unfolding agreeAt
 at-is ρ g i T p q = refl
+
+-- where a level stands, level 1 does
+pub one-stands : (n i : ℕ) (levels : List ℕ) → Stands n levels i → Stands n levels 1
+one-stands n i levels st = record { some = omega arith; room = omega (arith, mul-le-mul-right {m = 1} {n = i} (n * n) (st .some), st .room) }
