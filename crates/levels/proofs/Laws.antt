@@ -3,6 +3,7 @@ pub mod Marks
 pub mod Tables
 pub mod Areas
 pub mod Agreement
+pub mod Halves
 pub mod Reach
 pub mod Rows
 pub mod Numbers

@@ -3,6 +3,7 @@ pub mod agree;
 pub mod all;
 mod chains;
 pub mod check;
+mod halves;
 pub mod marks;
 pub mod near;
 pub mod number;
