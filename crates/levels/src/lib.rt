@@ -4,6 +4,7 @@ pub mod all;
 mod chains;
 pub mod check;
 mod halves;
+mod hashes;
 pub mod marks;
 pub mod near;
 pub mod number;
