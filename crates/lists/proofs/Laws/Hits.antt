@@ -12,11 +12,12 @@ use lib.Dec.{eqb}
 use lib.ListN.{length, getD, length-append}
 use Rattle.rules.specs.Finite.{countBelow}
 use Rattle.rules.specs.Accept.{difference}
-use Rattle.rules.proofs.Laws.Tests.{either}
+use Rattle.rules.proofs.Laws.Finite.{below-cases}
 use Rattle.rules.proofs.Laws.Places.{place-lt}
 use Rattle.lists.specs.Relations.{bitAt, Slot}
-use Rattle.lists.specs.Entries.{Went, Firsts, isFirst, isHit, entriesRow}
+use Rattle.lists.specs.Entries.{Went, Firsts, isFirst, isHit, Blank, entriesRow}
 use Rattle.lists.proofs.Laws.Difference.{difference-is}
+use Rattle.lists.proofs.Laws.Emitting.{row-miss}
 use Rattle.lists.proofs.Laws.Went.{went-as, went-none}
 
 -- one position
@@ -55,6 +56,23 @@ unfolding countBelow
 count-le zero f = omega arith
 count-le (suc n) f = omega (arith, count-le n f, one-le (f n))
 
+-- sixteen places without a hit
+count-none : (n : ℕ) (f : ℕ → Bool) → countBelow n f ≡ 0 → (j : ℕ) → j < n → f j ≡ false
+unfolding countBelow
+count-none zero f e j h = absurd (omega arith)
+count-none (suc n) f e j h =
+    ⊎-elim
+    (λ (q : j ≡ n). rw q (off (f n) (omega arith)))
+    (λ (l : j < n). count-none n f (omega arith) j l)
+    (below-cases h)
+  where
+    off : (b : Bool) → cond {A = ℕ} b 1 0 ≡ 0 → b ≡ false
+    off true e = absurd (omega arith)
+    off false e = refl
+
+pub blank-is : (w : List ℕ) (from firsts l u n : ℕ) {k : ℕ} → u + 16 ≤ n → k ≡ countBelow 16 (isHit w from firsts l) → k ≡ 0 → Blank w from firsts l u n
+blank-is w from firsts l u n h e z = record { inside = h; none = count-none 16 (isHit w from firsts l) (sym e ∙ z) }
+
 -- the hits of a row are its entries
 told : (b : Bool) → not (eqb (cond {A = ℕ} b 1 0) 0) ≡ b
 told true = refl
@@ -71,6 +89,26 @@ module _ (n : ℕ) (t : List ℕ) (J : ℕ → ℕ → Bool) (code v from l : �
       let b : from + v * n + u ≡ from + (v * n + u) = omega arith in
       rw (a, b)
       (ap₂ _&&_ (ap (λ (z : ℕ). not (eqb z 0)) (firsts .mark (v * n + u) (place-lt n v u hv h)) ∙ told (isFirst t (v * n + u))) (slot .cell v u hv h))
+
+  hit-at : (u k : ℕ) → isHit w (from + (v * n + u)) (8 * (n * n) + (v * n + u)) l k ≡ false → hits (u + k) ≡ false
+  unfolding isHit
+  hit-at u k e =
+      let a : 8 * (n * n) + v * n + (u + k) ≡ 8 * (n * n) + (v * n + u) + k = omega arith in
+      let b : from + v * n + (u + k) ≡ from + (v * n + u) + k = omega arith in
+      rw (a, b) e
+
+  -- places without a hit give no entries
+  blank-to : (u k : ℕ) → u + k ≤ n → ((j : ℕ) → j < k → isHit w (from + (v * n + u)) (8 * (n * n) + (v * n + u)) l j ≡ false)
+      → entriesRow n t J code v u ≡ entriesRow n t J code v (u + k)
+  blank-to u zero h f = ap (λ (z : ℕ). entriesRow n t J code v z) (omega arith)
+  blank-to u (suc k) h f =
+      let e : u + k + 1 ≡ u + suc k = omega arith in
+      blank-to u k (omega arith) (λ j l. f j (omega arith))
+      ∙ row-miss n t J code v (u + k) (sym (hit-is (u + k) (omega arith)) ∙ hit-at u k (f k (omega arith)))
+      ∙ ap (λ (z : ℕ). entriesRow n t J code v z) e
+
+  pub row-blank : (u : ℕ) → Blank w (from + (v * n + u)) (8 * (n * n) + (v * n + u)) l u n → entriesRow n t J code v u ≡ entriesRow n t J code v (u + 16)
+  row-blank u b = blank-to u 16 (b .inside) (b .none)
 
   row-length : (k : ℕ) → k ≤ n → length (entriesRow n t J code v k) ≡ 2 * countBelow k hits
   unfolding entriesRow countBelow
