@@ -2,6 +2,8 @@
 ghost use mathlib.Core.Path.{_≡_};
 ghost use mathlib.Core.List.{List};
 ghost use Prim.Native.Nat.{ℕ, _<_};
+ghost use mathlib.Core.Bool.{_&&_};
+ghost use lib.Dec.{eqb, ltb};
 ghost use lib.ListN.{length};
 ghost use Rattle.lines.specs.Machine.{lastLine, ended};
 ghost use Rattle.lines.specs.Machine.{finish as wholeEnd};
@@ -13,6 +15,16 @@ use crate::Taken;
 use crate::stages;
 use crate::steps;
 use crate::turns;
+
+// Whether bytes are left and no text is to be printed.
+fn goes_on(at: usize, end: usize, many: usize) -> bool
+    ensures { λ r. ⌜ r ≡ (ltb at end && eqb many 0) ⌝ }
+{
+    if at < end {
+        return many == 0;
+    }
+    false
+}
 
 // Takes bytes of the input from a place on, until a text is to be printed or the input ends.
 pub fn advance(
@@ -34,7 +46,9 @@ pub fn advance(
 {
     let mut t = s;
     let mut i = from;
-    while i < input.len() {
+    let mut many: usize = 0;
+    let mut more = true;
+    while more {
         let taken = steps::take_byte(
             t,
             input[i],
@@ -49,19 +63,14 @@ pub fn advance(
             out,
         );
         t = taken.state;
+        many = taken.many;
         i += 1;
-        if 0 < taken.many {
-            return Advance {
-                state: t,
-                next: i,
-                many: taken.many,
-            };
-        }
+        more = goes_on(i, input.len(), many);
     }
     Advance {
         state: t,
         next: i,
-        many: 0,
+        many,
     }
 }
 

@@ -2,11 +2,14 @@
 use Prim.Native.Nat.{ℕ, suc, _+_, _≤_, _<_}
 use mathlib.Core.Path.{_≡_, refl, sym, ap, _∙_}
 use mathlib.Core.List.{List, [], _∷_, _++_}
-use mathlib.Core.Bool.{true, false}
+use mathlib.Core.Bool.{Bool, true, false, _&&_}
+use borrow.Author.Tests.{ltb-true, eqb-true, lt-ltb, le-ltb}
 use native.Mathlib.Numerals.{add-one}
 use native.Mathlib.Omega.{arith}
+use lib.Dec.{ltb, eqb}
 use lib.ListN.{length, getD, take, drop, drop-of-length-le}
 use lib.Seq.{sets, sets-eq, take-at, drop-cons, length-take-le, length-sets}
+use Rattle.rules.proofs.Laws.Tests.{and-left, and-right}
 use Rattle.lines.specs.declared.Phase.the-variants.{Opening, Gathering, Answering, Stopped}
 use Rattle.lines.specs.declared.Moved.{Moved}
 use Rattle.lines.specs.declared.State.{State}
@@ -21,47 +24,51 @@ pub feed-at : (m : Machine) (l : List ℕ) (i : ℕ) → i < length l → feed m
 unfolding feed
 feed-at m l i h = rw (add-one, drop-cons l i 0 h)
 
--- nothing was printed
-pub none-of : (l : List ℕ) → length l ≡ 0 → l ≡ []
-none-of [] e = refl
-none-of (x ∷ l) e = absurd (omega (arith, e))
-
-after-none : (f : Fed) → after [] f ≡ f
-unfolding after
-after-none f = refl
-
 -- the text at the front of a list
 pub text-front : (text old new : List ℕ) (n : ℕ) → n ≡ length text → n ≤ length old → new ≡ sets old 0 text → take n new ≡ text
 text-front text old new n e h w =
     ap (take n) (w ∙ sets-eq text old 0 (omega (arith, e))) ∙ take-at text (drop (0 + length text) old) n (sym e)
 
--- what the loop keeps: the rest of the input, fed to the machine, is what it was to be
-pub record Looped (input : List ℕ) (from i : ℕ) (t : State) (part edges levels starts order entries area answers out : List ℕ) (goal : Fed) : Type 0 where
+-- what the loop keeps: what was printed before the rest of the input, fed to the machine, is what it was to be
+pub record Looped (input : List ℕ) (from i : ℕ) (t : State) (many : ℕ) (more : Bool) (part edges levels starts order entries area answers out : List ℕ) (goal : Fed) : Type 0 where
   pub behind : from ≤ i
   pub within : i ≤ length input
   pub stands : Stands t
   pub part-lent : length part ≡ 512
   pub lent : Lent edges levels starts order entries area answers out
-  pub fed : feed (machineOf t part edges levels entries) (drop i input) ≡ goal
+  pub inside : many ≤ length out
+  pub fed : goal ≡ after (take many out) (feed (machineOf t part edges levels entries) (drop i input))
+  pub ready : more ≡ true → (i < length input) × (many ≡ 0)
+  pub moved : more ≡ false → from < i
+
+-- nothing was printed yet
+pub fed-start : (f : Fed) (out : List ℕ) → f ≡ after (take 0 out) f
+unfolding after
+fed-start f out = refl
+
+pub fed-open : (goal f : Fed) (out : List ℕ) (many : ℕ) → many ≡ 0 → goal ≡ after (take many out) f → goal ≡ f
+unfolding after
+fed-open goal f out many e h = h ∙ (ap (λ (k : ℕ). after (take k out) f) e ∙ sym (fed-start f out))
 
 module _ (m : Machine) (input : List ℕ) (i : ℕ) (r : Taken) (part edges levels entries old new : List ℕ) (h : i < length input) (s : Steps (byte m (getD input i 0)) r part edges levels entries old new) where
-  pub step-silent : r .many ≡ 0 → feed (machineOf (r .state) part edges levels entries) (drop (i + 1) input) ≡ feed m (drop i input)
-  step-silent e =
-      ap (λ (n : Machine). feed n (drop (i + 1) input)) (s .machine)
-      ∙ sym (feed-at m input i h
-      ∙ (ap (λ (l : List ℕ). after l (feed (byte m (getD input i 0) .machine) (drop (i + 1) input))) (none-of (byte m (getD input i 0) .text) (sym (s .many) ∙ e))
-      ∙ after-none (feed (byte m (getD input i 0) .machine) (drop (i + 1) input))))
-
   pub step-printed : feed m (drop i input) ≡ after (take (r .many) new) (feed (machineOf (r .state) part edges levels entries) (drop (i + 1) input))
   step-printed =
       feed-at m input i h
       ∙ (ap (λ (l : List ℕ). after l (feed (byte m (getD input i 0) .machine) (drop (i + 1) input))) (sym (text-front (byte m (getD input i 0) .text) old new (r .many) (s .many) (s .inside) (s .text)))
       ∙ ap (λ (n : Machine). after (take (r .many) new) (feed n (drop (i + 1) input))) (sym (s .machine)))
 
--- the input has ended in the loop
-pub fed-whole : (goal f : Fed) (out : List ℕ) → f ≡ goal → goal ≡ after (take 0 out) f
-unfolding after
-fed-whole goal f out e = sym e
+-- whether it goes on, by the first test
+pub goes-left : (i n : ℕ) (b : Bool) → i < n → b ≡ (ltb i n && b)
+goes-left i n b h = rw (lt-ltb i n h)
+
+pub goes-none : (i n : ℕ) (b : Bool) → n ≤ i → false ≡ (ltb i n && b)
+goes-none i n b h = rw (le-ltb i n h)
+
+-- where the loop goes on, a byte is left and nothing is to be printed
+pub goes-open : (i n many : ℕ) (more : Bool) → more ≡ (ltb i n && eqb many 0) → more ≡ true → (i < n) × (many ≡ 0)
+goes-open i n many more e t =
+    let b : (ltb i n && eqb many 0) ≡ true = sym e ∙ t in
+    (ltb-true i n (and-left (ltb i n) (eqb many 0) b), eqb-true many 0 (and-right (ltb i n) (eqb many 0) b))
 
 -- the last line
 last-none : (m : Machine) (l : List ℕ) → length l ≡ 0 → lastBy m l ≡ record { machine = m; text = [] }
@@ -102,7 +109,7 @@ last-held s part edges levels entries f n e h =
 written-comes : (t : Turn) (r : Moved) (edges levels entries old new : List ℕ) → Comes t r edges levels entries old new → Written (t .text) (r .many) 0 old new
 written-comes t r edges levels entries old new h = record { size = h .many; bytes = h .text; inside = omega (arith, h .inside) }
 
-pub written-as : {t u : List ℕ} {n at : ℕ} {old new : List ℕ} → u ≡ t → Written t n at old new → Written u n at old new
+written-as : {t u : List ℕ} {n at : ℕ} {old new : List ℕ} → u ≡ t → Written t n at old new → Written u n at old new
 written-as e h = rw e h
 
 module _ (s : State) (part edges levels entries : List ℕ) where
