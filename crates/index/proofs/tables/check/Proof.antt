@@ -4,8 +4,8 @@ use native.Mathlib.Omega.{arith}
 use Rattle.rules.specs.Verdict.{good}
 use Rattle.rules.specs.Outcomes.{checkRefusal, checkGraph}
 use Rattle.rules.proofs.Laws.Calls.{passed}
-use Rattle.index.specs.Tables.{checkCall}
-use Rattle.index.proofs.Laws.Links.{link-good, link-refused}
+use Rattle.rules.specs.Calls.{checkCall}
+use Rattle.refusals.proofs.Laws.Links.{link-good, link-refused}
 use Rattle.index.proofs.Laws.Counts.{square-small}
 use Rattle.index.proofs.Laws.Checking.{few-items, checks-worked, checks-refused}
 use Rattle.index.proofs.tables.check.Statement.{statement}
