@@ -1,3 +1,4 @@
+-- The invariant: `some` counts the hits among the first u places and is at most u, so that it fits a byte.
 use Prim.Native.Nat.{_-_, _≤_}
 use mathlib.Core.Path.{_≡_}
 use native.Mathlib.Omega.{arith}
