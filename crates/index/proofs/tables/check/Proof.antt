@@ -1,3 +1,4 @@
+-- A link that refuses is the refusal of the call; else the verdict is `check_tables`'s, and the area that it worked in is cleared.
 use borrow.Author.Needs.{needs}
 use mathlib.Core.Path.{_≡_}
 use native.Mathlib.Omega.{arith}
