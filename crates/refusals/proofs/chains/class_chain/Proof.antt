@@ -1,3 +1,4 @@
+-- Six ends; the hard one is 12: the number that reading gave is the diameter of the query that was read (`read-diameter`).
 use Prim.Native.Nat.{_*_}
 use Rattle.rules.specs.Query.{diameter}
 use mathlib.Core.Path.{_≡_, refl}

@@ -1,3 +1,4 @@
+-- Five ends: sizes, edge count, edges, the fault in reading, room. Each passes over the links that were good.
 use mathlib.Core.Path.{_≡_}
 use Rattle.rules.specs.Reading.{readTokens}
 use Rattle.rules.specs.Verdict.{good, sizes, edgeCount, edgesFit, room, wellRead}

@@ -1,3 +1,4 @@
+-- The product by definition; at most 128 items have at most 16384 pairs (`square-le`).
 use mathlib.Core.Path.{refl}
 use native.Mathlib.Omega.{arith}
 use Rattle.rules.proofs.Laws.Places.{square-le}

@@ -1,3 +1,4 @@
+-- Four ends: sizes, the fault in reading, room in the area, room in the table. Each passes over the links that were good.
 use Prim.Native.Nat.{_*_}
 use mathlib.Core.Path.{_≡_}
 use Rattle.rules.specs.Reading.{readTokens}

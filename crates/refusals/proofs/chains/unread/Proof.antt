@@ -1,3 +1,4 @@
+-- A fault is handed on; a query is no fault, so nothing is promised of it.
 use mathlib.Core.Path.{_≡_}
 use Prim.Native.Nat.{ℕ}
 use native.Mathlib.Omega.{arith}

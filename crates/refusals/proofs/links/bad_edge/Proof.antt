@@ -1,3 +1,4 @@
+-- Three tests one after the other: each or is settled by the first that holds.
 use borrow.Author.Tests.{le-leb, lt-leb}
 use Rattle.refusals.proofs.links.bad_edge.Statement.{statement}
 use Rattle.refusals.proofs.links.bad_edge.Tie as tie

@@ -1,3 +1,4 @@
+-- Three ways: not a multiple of three, more than 12288 numbers, or good, each by the definition of the link.
 use borrow.Author.Tests.{eq-eqb, ne-eqb, lt-ltb, le-ltb}
 use Rattle.rules.specs.Verdict.{when, edgeCount}
 use Rattle.refusals.specs.Links.{linkOf}

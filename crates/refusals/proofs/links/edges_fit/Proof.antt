@@ -1,3 +1,4 @@
+-- The first bad edge is below the count, and refused, or it is the count, and none is bad.
 use borrow.Author.Tests.{lt-ltb, le-ltb}
 use Rattle.rules.specs.Verdict.{when, edgesFit}
 use Rattle.refusals.specs.Links.{linkOf}

@@ -1,3 +1,4 @@
+-- The invariant: none of the first e edges is bad. A bad one at e is then the first; after the last there is none.
 use borrow.Author.Needs.{needs}
 use Prim.Native.Nat.{_-_, _/_, _≤_}
 use mathlib.Core.Path.{_≡_, sym, _∙_}

@@ -1,3 +1,4 @@
+-- Three ways: 0, above 4, or good, each by the definition of the link.
 use borrow.Author.Tests.{eq-eqb, ne-eqb, lt-ltb, le-ltb}
 use Rattle.rules.specs.Verdict.{when, levelCount}
 use Rattle.refusals.specs.Links.{linkOf}

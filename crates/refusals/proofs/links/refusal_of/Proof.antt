@@ -1,3 +1,4 @@
+-- A refusing link gives its refusal; a good one is none, so nothing is promised of it.
 use borrow.Author.Needs.{needs}
 use Rattle.refusals.proofs.links.refusal_of.Statement.{statement}
 use Rattle.refusals.proofs.links.refusal_of.Tie as tie

@@ -1,3 +1,4 @@
+-- The two ways of the test, by the definition of the link.
 use borrow.Author.Tests.{lt-ltb, le-ltb}
 use Rattle.rules.specs.Verdict.{when}
 use Rattle.refusals.specs.Links.{linkOf}

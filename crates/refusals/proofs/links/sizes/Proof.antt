@@ -1,3 +1,4 @@
+-- Four ways: too many items, no label, too many labels, or good, each by the definition of the link.
 use borrow.Author.Tests.{eq-eqb, ne-eqb, lt-ltb, le-ltb}
 use Rattle.rules.specs.Verdict.{when, sizes}
 use Rattle.refusals.specs.Links.{linkOf}

@@ -1,3 +1,4 @@
+-- Three ends: check's refusals, room for order, room for starts. Build's order is check's with these two behind it.
 use borrow.Author.Needs.{needs}
 use Prim.Native.Nat.{ℕ, _*_}
 use mathlib.Core.Path.{_≡_}

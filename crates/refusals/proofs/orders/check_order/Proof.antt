@@ -1,3 +1,4 @@
+-- Six ends, one a link: those before it were good (`chain-on`), and its own refusal ends the chain (`chain-end`).
 use borrow.Author.Needs.{needs}
 use Prim.Native.Nat.{_*_}
 use mathlib.Core.Path.{_≡_}
