@@ -1,3 +1,4 @@
+-- The numbers between two bounds in the list are its slice (`take-from`).
 use borrow.Author.Needs.{needs}
 use Rattle.parts.proofs.Laws.Parts.{take-from}
 use Rattle.parts.proofs.between.Statement.{statement}

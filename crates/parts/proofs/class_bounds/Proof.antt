@@ -1,3 +1,4 @@
+-- Five ways, a law each: class 0, past the starts, bounds out of order, past the order list, or the part.
 use Prim.Native.Nat.{_-_}
 use Prim.Native.Nat.{_-_}
 use Prim.Native.Nat.{_-_}

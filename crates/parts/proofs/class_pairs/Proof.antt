@@ -1,3 +1,4 @@
+-- The bounds of a class lie in the order list (`class-part`), so the part can be handed over.
 use borrow.Author.Needs.{needs}
 use Rattle.parts.proofs.Laws.Parts.{class-part}
 use mathlib.Core.Path.{_∙_, ap}

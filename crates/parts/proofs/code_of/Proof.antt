@@ -1,3 +1,4 @@
+-- The invariant: the code so far, gone on with the symbols that are left, is the code of all; four symbols keep it below 2^32.
 use Prim.Native.Nat.{_+_, _*_, _-_, _^_, _≤_}
 use mathlib.Core.Path.{_≡_, refl}
 use native.Mathlib.Omega.{arith}

@@ -1,3 +1,4 @@
+-- The invariant: the first i symbols are known. An unknown one at i, 0 or above 16, is then the first.
 use Prim.Native.Nat.{_-_, _≤_}
 use mathlib.Core.Path.{_≡_}
 use mathlib.Core.Bool.{false}

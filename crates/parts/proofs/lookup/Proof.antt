@@ -1,3 +1,4 @@
+-- The bounds of a lookup lie in the entry list (`lookup-part`), so the part can be handed over.
 use borrow.Author.Needs.{needs}
 use Rattle.parts.proofs.Laws.Parts.{lookup-part}
 use mathlib.Core.Path.{_∙_, ap}

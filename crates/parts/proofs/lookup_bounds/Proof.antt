@@ -1,3 +1,4 @@
+-- Three ways: over four symbols, an unknown symbol with its place, or the run of the code.
 use borrow.Author.Needs.{needs}
 use native.Mathlib.Omega.{arith}
 use mathlib.Core.Path.{sym, _∙_, ap}

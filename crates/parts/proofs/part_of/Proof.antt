@@ -1,3 +1,4 @@
+-- The two cases of bounds: a part, which lies in the list, or a refusal and nothing.
 use borrow.Author.Needs.{needs}
 use Rattle.parts.proofs.Laws.Parts.{part-numbers, part-none}
 use Rattle.parts.proofs.part_of.Statement.{statement}

@@ -1,3 +1,4 @@
+-- Two ways: no entry has the code, and the part is empty; or the run from the first such entry on, two numbers an entry.
 use borrow.Author.Needs.{needs}
 use native.Mathlib.Omega.{arith}
 use Rattle.query.proofs.Laws.Runs.{to-at-most}
