@@ -2,6 +2,7 @@
 pub mod Tests
 pub mod Finite
 pub mod Listing
+pub mod Counting
 pub mod Places
 pub mod Writing
 pub mod Put
