@@ -3,7 +3,9 @@ pub mod Marks
 pub mod Tables
 pub mod Areas
 pub mod Agreement
+pub mod Halves
 pub mod Reach
+pub mod Rows
 pub mod Numbers
 pub mod Level
 pub mod Right

@@ -114,6 +114,7 @@ agree-requires c κs =
     let q2 = column-lt _ _ h in
     let p1 = row-lt _ _ (a .pre .2 .inside) in
     let p2 = column-lt _ _ (a .pre .2 .inside) in (
+      a .pre .0 .few,
       record { some = a .pre .0 .some; room = a .pre .0 .room },
       record { room = omega arith },
       record { first = omega arith; second = omega arith },
