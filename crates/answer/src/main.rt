@@ -1,10 +1,13 @@
 // Reads standard input, hands it to `lines`, and writes what `lines` leaves at the front of the output. No contract can say which bytes
-// a read delivers or a write emits: all else is stated of the functions on slices. At most one line, and the tables, are held.
+// stand in the input or come out of a write: the contracts speak of the bytes that the reads handed over, and of what stands at the front of
+// the output. At most one line, and the tables, are held.
 ghost use mathlib.Core.Path.{_≡_};
-ghost use Prim.Native.Nat.{_≤_};
+ghost use Prim.Native.Nat.{ℕ, _<_};
+ghost use mathlib.Core.List.{List};
 ghost use lib.ListN.{length};
 ghost use Rattle.lines.specs.Machine.{feed};
-ghost use Rattle.lines.specs.Standing.{machineOf, Stands, Lent};
+ghost use Rattle.lines.specs.Standing.{stageOf, machineOf, Stands, Lent};
+ghost use Rattle.answer.specs.Reads.{goesOn, Reads, Behind, Ends};
 use libc::STDIN_FILENO;
 use libc::STDOUT_FILENO;
 use lines::State;
@@ -53,15 +56,28 @@ fn print_all(
     t
 }
 
-// The state behind a read, and whether there is more to read.
+// The state behind a read, how many bytes it handed over, and whether there is more to read.
 struct Turn {
     state: State,
+    got: usize,
     more: bool,
+}
+
+// Nothing more is read at the end of the input, or once the run has stopped.
+fn goes_on(s: State, got: usize) -> bool
+    ensures { λ r. ⌜ ((edges levels entries : List ℕ) → r ≡ goesOn got (stageOf (s .progress) edges levels entries)) ⌝ }
+{
+    if got == 0 {
+        return false;
+    }
+    let progress = s.progress;
+    !steps::is_stopped(progress)
 }
 
 // One read.
 fn read_once(
     s: State,
+    buffer: &mut [u8],
     part: &mut [u8],
     edges: &mut [u32],
     levels: &mut [u32],
@@ -73,20 +89,13 @@ fn read_once(
     out: &mut [u8],
 ) -> Turn
     requires { ⌜ Stands s × (length (now part) ≡ 512) × Lent (now edges) (now levels) (now starts) (now order) (now entries) (now area) (now answers) (now out) ⌝ }
-    ensures { λ r. ⌜ Stands (r .state) ⌝ }
+    ensures { λ r. ⌜ Stands (r .state) × Reads (machineOf s (now (part .entry)) (now (edges .entry)) (now (levels .entry)) (now (entries .entry))) (machineOf (r .state) (now (part .exit)) (now (edges .exit)) (now (levels .exit)) (now (entries .exit))) (r .got) (r .more) (now (buffer .exit)) ⌝ }
 {
-    let mut buf = io::buffer();
-    let got = libc::read(STDIN_FILENO, &mut buf);
-    let n = io::count(got, &buf);
-    if n == 0 {
-        return Turn {
-            state: s,
-            more: false,
-        };
-    }
-    let t = print_all(
+    let moved = libc::read(STDIN_FILENO, buffer);
+    let got = io::count(moved, buffer);
+    let state = print_all(
         s,
-        &buf[..n],
+        &buffer[..got],
         part,
         edges,
         levels,
@@ -97,18 +106,21 @@ fn read_once(
         answers,
         out,
     );
-    let progress = t.progress;
-    let stopped = steps::is_stopped(progress);
-    Turn {
-        state: t,
-        more: !stopped,
-    }
+    let more = goes_on(state, got);
+    Turn { state, got, more }
 }
 
-// The end of the input: the last line, and what is printed at the end.
-fn finish(
-    s: State,
-    part: &[u8],
+// A proved loop has to end, and nothing says that the input does: the reads are counted down, from a number that no run uses up.
+fn turns_left(turns: u64, more: bool) -> u64
+    requires { ⌜ 0 < turns ⌝ }
+    ensures { λ r. ⌜ r < turns ⌝ }
+{
+    if more { turns - 1 } else { 0 }
+}
+
+// Reads until there is no more to read.
+fn read_all(
+    part: &mut [u8],
     edges: &mut [u32],
     levels: &mut [u32],
     starts: &mut [u32],
@@ -117,11 +129,49 @@ fn finish(
     area: &mut [u8],
     answers: &mut [u32],
     out: &mut [u8],
-)
-    requires { ⌜ Stands s × (length (now part) ≡ 512) × Lent (now edges) (now levels) (now starts) (now order) (now entries) (now area) (now answers) (now out) ⌝ }
+) -> State
+    requires { ⌜ (length (now part) ≡ 512) × Lent (now edges) (now levels) (now starts) (now order) (now entries) (now area) (now answers) (now out) ⌝ }
+    ensures { λ r. ⌜ Stands r × Behind (machineOf r (now (part .exit)) (now (edges .exit)) (now (levels .exit)) (now (entries .exit))) ⌝ }
 {
-    let taken = feeding::last_line(
-        s,
+    let mut buffer = io::buffer();
+    let mut s = steps::start();
+    let mut turns = u64::MAX;
+    while 0 < turns {
+        let t = read_once(
+            s,
+            &mut buffer,
+            part,
+            edges,
+            levels,
+            starts,
+            order,
+            entries,
+            area,
+            answers,
+            out,
+        );
+        s = t.state;
+        turns = turns_left(turns, t.more);
+    }
+    s
+}
+
+// The run up to its last text: how many bytes of it stand at the front of the output.
+fn run(
+    part: &mut [u8],
+    edges: &mut [u32],
+    levels: &mut [u32],
+    starts: &mut [u32],
+    order: &mut [u32],
+    entries: &mut [u32],
+    area: &mut [u8],
+    answers: &mut [u32],
+    out: &mut [u8],
+) -> usize
+    requires { ⌜ (length (now part) ≡ 512) × Lent (now edges) (now levels) (now starts) (now order) (now entries) (now area) (now answers) (now out) ⌝ }
+    ensures { λ r. ⌜ Ends r (now (out .exit)) ⌝ }
+{
+    let s = read_all(
         part,
         edges,
         levels,
@@ -132,14 +182,20 @@ fn finish(
         answers,
         out,
     );
-    let many = taken.many;
-    io::write_all(STDOUT_FILENO, &out[..many]);
-    let t = taken.state;
-    let rest = feeding::end_input(t, edges, levels, starts, order, entries, area, out);
-    io::write_all(STDOUT_FILENO, &out[..rest]);
+    feeding::finish(
+        s,
+        part,
+        edges,
+        levels,
+        starts,
+        order,
+        entries,
+        area,
+        answers,
+        out,
+    )
 }
 
-// A proved loop has to end, and nothing says that the input does: the reads are counted down, from a number that no run uses up.
 fn main() {
     let mut part = [0u8; 512];
     let mut edges = [0u32; 3072];
@@ -150,29 +206,8 @@ fn main() {
     let mut area = [0u8; 9216];
     let mut answers = [0u32; 1024];
     let mut out = [0u8; 4118];
-    let mut s = steps::start();
-    let mut more = true;
-    let mut turns = u64::MAX;
-    while more && turns > 0 {
-        let t = read_once(
-            s,
-            &mut part,
-            &mut edges,
-            &mut levels,
-            &mut starts,
-            &mut order,
-            &mut entries,
-            &mut area,
-            &mut answers,
-            &mut out,
-        );
-        s = t.state;
-        more = t.more;
-        turns -= 1;
-    }
-    finish(
-        s,
-        &part,
+    let many = run(
+        &mut part,
         &mut edges,
         &mut levels,
         &mut starts,
@@ -182,4 +217,5 @@ fn main() {
         &mut answers,
         &mut out,
     );
+    io::write_all(STDOUT_FILENO, &out[..many]);
 }

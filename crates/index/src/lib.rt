@@ -4,6 +4,8 @@
 mod links;
 // the orders of refusals of the answers
 mod chains;
+// how a set of pairs is told
+mod telling;
 // the class numbers of a set of pairs
 mod classes;
 // direct, stored and class answer

@@ -1,15 +1,11 @@
 -- Step marks: a byte for each pair of n items at the front of the area, with bit l set where an edge of label l goes from its first item to its second.
-use Prim.Native.Nat.{ℕ, _*_, _+_, _/_, _%_, _^_, _<_}
+use Prim.Native.Nat.{ℕ, _*_, _+_, _/_, _%_, _<_}
 use mathlib.Core.Path.{_≡_}
 use mathlib.Core.List.{List}
 use mathlib.Core.Bool.{Bool, cond}
-use lib.Dec.{eqb}
 use lib.ListN.{getD, take}
 use Rattle.rules.specs.Graph.{Graph, hasEdge}
-
--- bit l of x is set
-unfoldable pub bitAt : ℕ → ℕ → Bool
-bitAt l x = eqb (x / (2 ^ l) % 2) 1
+unfoldable pub use Rattle.rules.specs.Bits.{bitAt}
 
 -- the marks say that an edge of label l goes from v to u
 unfoldable pub markedEdge : ℕ → List ℕ → ℕ → ℕ → ℕ → Bool

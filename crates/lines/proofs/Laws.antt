@@ -6,3 +6,6 @@ pub mod Building
 pub mod Turns
 pub mod Steps
 pub mod Feeding
+pub mod Lines
+pub mod Form
+pub mod Ending

@@ -4,6 +4,7 @@ ghost use mathlib.Core.List.{List};
 ghost use Prim.Native.Nat.{ℕ, _<_};
 ghost use lib.ListN.{length};
 ghost use Rattle.lines.specs.Machine.{lastLine, ended};
+ghost use Rattle.lines.specs.Machine.{finish as wholeEnd};
 ghost use Rattle.lines.specs.Standing.{stageOf, machineOf, Stands, Steps, Rooms, Lent, Written, Advances};
 use crate::Advance;
 use crate::Phase;
@@ -65,7 +66,7 @@ pub fn advance(
 }
 
 // The last line may lack its end; a final line end opens no line.
-pub fn last_line(
+fn last_line(
     s: State,
     part: &[u8],
     edges: &mut [u32],
@@ -103,7 +104,7 @@ pub fn last_line(
 
 // At the end of input the tables are built if no query asked for them; an input with no line at all is a bad frame. Answers how many
 // bytes of text stand at the front of the output.
-pub fn end_input(
+fn end_input(
     s: State,
     edges: &[u32],
     levels: &mut [u32],
@@ -131,4 +132,41 @@ pub fn end_input(
         Phase::Answering => 0,
         Phase::Stopped => 0,
     }
+}
+
+// The last line, and what is printed at the end: at most one of the two is a text. Answers how many bytes of it stand at the front of the
+// output.
+pub fn finish(
+    s: State,
+    part: &[u8],
+    edges: &mut [u32],
+    levels: &mut [u32],
+    starts: &mut [u32],
+    order: &mut [u32],
+    entries: &mut [u32],
+    area: &mut [u8],
+    answers: &mut [u32],
+    out: &mut [u8],
+) -> usize
+    requires { ⌜ Stands s × (length (now part) ≡ 512) × Lent (now edges) (now levels) (now starts) (now order) (now entries) (now area) (now answers) (now out) ⌝ }
+    ensures { λ r. ⌜ Written (wholeEnd (machineOf s (now (part .entry)) (now (edges .entry)) (now (levels .entry)) (now (entries .entry)))) r 0 (now (out .entry)) (now (out .exit)) ⌝ }
+{
+    let taken = last_line(
+        s,
+        part,
+        edges,
+        levels,
+        starts,
+        order,
+        entries,
+        area,
+        answers,
+        out,
+    );
+    let many = taken.many;
+    if 0 < many {
+        return many;
+    }
+    let t = taken.state;
+    end_input(t, edges, levels, starts, order, entries, area, out)
 }

@@ -1,8 +1,7 @@
-pub mod Counting
+-- Laws of the lists: counting sort, relations in the area, the walk over sequences, entries, and how tables are compared with them.
 pub mod Front
 pub mod Sorting
 pub mod Numbers
-pub mod Bits
 pub mod Areas
 pub mod Blocks
 pub mod Marks
@@ -19,4 +18,3 @@ pub mod Matching
 pub mod Places
 pub mod Found
 pub mod Written
-pub mod Codes

@@ -2,9 +2,12 @@
 pub mod Tests
 pub mod Finite
 pub mod Listing
+pub mod Counting
 pub mod Places
 pub mod Writing
 pub mod Put
+pub mod Fronts
+pub mod Bits
 pub mod Loops
 pub mod Graph
 pub mod Ends
@@ -12,6 +15,7 @@ pub mod Query
 pub mod Bisim
 pub mod Agree
 pub mod Numbering
+pub mod Numbered
 pub mod Levels
 pub mod Accepted
 pub mod AllOrNone
@@ -24,10 +28,13 @@ pub mod ClassAnswer
 pub mod ClassLists
 pub mod Walks
 pub mod Reading
+pub mod Scanner
 pub mod Postfix
+pub mod Spelling
 pub mod Rules
 pub mod Verdict
 pub mod Faults
 pub mod Links
 pub mod Calls
 pub mod Dense
+pub mod Fixed

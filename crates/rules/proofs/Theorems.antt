@@ -8,8 +8,11 @@ pub mod ClassAnswer
 pub mod Builder
 pub mod Edges
 pub mod Classes
+pub mod Tables
 pub mod Lists
 pub mod Entries
 pub mod Examples
 pub mod Errors
+pub mod Orders
+pub mod Limits
 pub mod Tokens

@@ -2,6 +2,7 @@ pub mod Finite
 pub mod Graph
 pub mod Query
 pub mod Reading
+pub mod Scanner
 pub mod Rule
 pub mod Levels
 pub mod Lists
@@ -13,3 +14,4 @@ pub mod Promises
 pub mod Numbers
 pub mod Published
 pub mod Writing
+pub mod Bits

@@ -16,7 +16,8 @@ use Rattle.rules.proofs.Laws.Numbering.{numbering-length}
 use Rattle.levels.specs.Marks.{markedGraph}
 use Rattle.levels.specs.Needs.{Ready, Begun, base, isIn, alike}
 use Rattle.levels.proofs.Laws.Tables.{base-next}
-use Rattle.levels.proofs.Laws.Numbers.{numbering-more, max-snoc, next-le}
+use Rattle.rules.proofs.Laws.Dense.{max-snoc}
+use Rattle.levels.proofs.Laws.Numbers.{numbering-more, next-le}
 
 -- what is written behind stays out of the front
 put-front : (l : List ℕ) (at : ℕ) (s : List ℕ) (m : ℕ) → m ≤ at → at ≤ length l → take m (put l at s) ≡ take m l

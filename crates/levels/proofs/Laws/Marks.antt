@@ -18,7 +18,7 @@ use Rattle.rules.proofs.Laws.Finite.{any-none, any-find, all-at, all-intro}
 use Rattle.rules.proofs.Laws.Places.{place-lt}
 use Rattle.rules.proofs.Laws.Graph.{leads-forward, leads-backward, leads-adjacent, adjacent-leads, conn-zero, conn-cases, conn-refl, conn-one}
 use Rattle.levels.specs.Marks.{bitAt, markedEdge, markedGraph}
-use Rattle.levels.proofs.Laws.Bits.{bit-zero, bits-ext}
+use Rattle.rules.proofs.Laws.Bits.{bit-zero, bits-ext}
 
 -- condition B, as equal tests for each symbol
 module _ (g : Graph) (v u x y : ℕ) where

@@ -1,8 +1,8 @@
 -- One position more of a numbering, as the code makes it.
-use Prim.Native.Nat.{ℕ, zero, suc, _+_, _≤_, _<_, max}
+use Prim.Native.Nat.{ℕ, zero, suc, _+_, _≤_, _<_}
 use mathlib.Core.Path.{_≡_, refl, sym, ap₂, _∙_}
 use mathlib.Core.List.{List, [], _∷_, _++_}
-use mathlib.Core.Bool.{Bool, true, false, _&&_, cond}
+use mathlib.Core.Bool.{Bool, true, false, cond, _&&_}
 use native.Mathlib.Numerals.{add-one}
 use native.Mathlib.Omega.{arith}
 use lib.Dec.{ltb}
@@ -13,11 +13,6 @@ use Rattle.rules.specs.Finite.{anyBelow, firstBelow}
 use Rattle.rules.specs.Levels.{matches, nextNumber, numbering, maxOf}
 use Rattle.rules.proofs.Laws.Finite.{any-same, first-none}
 use Rattle.rules.proofs.Laws.Numbering.{max-bounds, number, numbering-at, numbering-length, related-same}
-
-pub max-snoc : (ns : List ℕ) (k : ℕ) → maxOf (ns ++ (k ∷ [])) ≡ max (maxOf ns) k
-unfolding maxOf
-max-snoc [] k = omega arith
-max-snoc (x ∷ xs) k = rw (max-snoc xs k) (omega arith)
 
 cond-le : (a b : Bool) (x y m : ℕ) → x ≤ m → y ≤ m → cond a (cond b x y) 0 ≤ m
 cond-le true true x y m h k = h

@@ -17,7 +17,7 @@ use Rattle.rules.specs.Accept.{numberOk, levelOk, firstFault}
 use Rattle.rules.proofs.Laws.Finite.{first-none}
 use Rattle.rules.proofs.Laws.Loops.{first-found}
 use Rattle.rules.proofs.Laws.Accepted.{right-find}
-use Rattle.levels.proofs.Laws.Numbers.{max-snoc}
+use Rattle.rules.proofs.Laws.Dense.{max-snoc}
 
 -- position q has number c
 unfoldable pub hasNumber : List ℕ → ℕ → ℕ → Bool

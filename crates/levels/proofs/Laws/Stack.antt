@@ -7,7 +7,7 @@ use native.Mathlib.Nat.{mul-le-mul-right, zero-mul}
 use native.Mathlib.Decide.{le-ind}
 use native.Mathlib.Omega.{arith}
 use lib.Dec.{ltb}
-use lib.ListN.{length, drop, length-append, length-drop}
+use lib.ListN.{length, drop, length-append}
 use lib.Seq.{take-at, drop-append-add, drop-drop}
 use borrow.Author.Tests.{lt-ltb, le-ltb}
 use Rattle.rules.specs.declared.Refusal.{Refusal}
@@ -16,7 +16,7 @@ use Rattle.rules.specs.Graph.{Graph}
 use Rattle.rules.specs.Rule.{Rule, rule}
 use Rattle.rules.specs.Levels.{numbering, connectedAt, agreeAt, maxOf, levelOf, stack, levelOver, builtLevels, builtLevel}
 use Rattle.rules.specs.Accept.{firstFault, levelsRight}
-use Rattle.rules.specs.Verdict.{good, refuse, _orElse_, when}
+use Rattle.rules.specs.Verdict.{good, refuse, when, _orElse_}
 use Rattle.rules.specs.Writing.{put}
 use Rattle.rules.specs.Outcomes.{front, told}
 use Rattle.rules.specs.declared.Checked.the-variants.{Accepted, Refused}
@@ -27,6 +27,7 @@ use Rattle.rules.proofs.Laws.Verdict.{good-or-else, both-good, good-when}
 use Rattle.levels.specs.Marks.{markedGraph}
 use Rattle.levels.specs.Needs.{Ready, Room, Kept, Placed, Faulty, Judged, base}
 use Rattle.rules.proofs.Laws.Faults.{right-accepted}
+use Rattle.rules.proofs.Laws.Fronts.{front-length}
 use Rattle.levels.proofs.Laws.Tables.{less-one}
 use Rattle.levels.proofs.Laws.Areas.{edges-kept, ready-area}
 
@@ -35,10 +36,6 @@ front-more : (b s l : List ℕ) → put (front b l) (length b) s ≡ front (b ++
 unfolding put front
 front-more b s l =
     rw (take-at b (drop (length b) l) (length b) refl, drop-append-add b (drop (length b) l) (length s), drop-drop (length s) (length b) l, length-append b s, append-assoc b s (drop (length b + length s) l)) refl
-
-length-front : (b l : List ℕ) → length b ≤ length l → length (front b l) ≡ length l
-unfolding front
-length-front b l h = simp (length-append, length-drop) (omega arith)
 
 pub kept-refl : (n : ℕ) (w : List ℕ) → Kept n w w
 kept-refl n w = record { marks = refl; rest = refl; size = refl }
@@ -68,7 +65,7 @@ module _ (n : ℕ) (area l : List ℕ) where
       (p / n) (p % n) (q / n) (q % n))))
 
   pub front-size : (k i : ℕ) → i ≤ k → k * (n * n) ≤ length l → length (front (built i) l) ≡ length l
-  front-size k i h r = length-front (built i) l (omega (arith, built-size i, mul-le-mul-right {m = i} {n = k} (n * n) h))
+  front-size k i h r = front-length (built i) l (omega (arith, built-size i, mul-le-mul-right {m = i} {n = k} (n * n) h))
 
   -- the next level can be numbered
   pub front-ready : (k i j : ℕ) (l' : List ℕ) → Room n k l area → i < k → j ≡ suc i → l' ≡ front (built i) l → Ready n j l' area

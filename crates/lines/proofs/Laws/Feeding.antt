@@ -22,7 +22,7 @@ unfolding feed
 feed-at m l i h = rw (add-one, drop-cons l i 0 h)
 
 -- nothing was printed
-none-of : (l : List ℕ) → length l ≡ 0 → l ≡ []
+pub none-of : (l : List ℕ) → length l ≡ 0 → l ≡ []
 none-of [] e = refl
 none-of (x ∷ l) e = absurd (omega (arith, e))
 
@@ -102,7 +102,7 @@ last-held s part edges levels entries f n e h =
 written-comes : (t : Turn) (r : Moved) (edges levels entries old new : List ℕ) → Comes t r edges levels entries old new → Written (t .text) (r .many) 0 old new
 written-comes t r edges levels entries old new h = record { size = h .many; bytes = h .text; inside = omega (arith, h .inside) }
 
-written-as : {t u : List ℕ} {n at : ℕ} {old new : List ℕ} → u ≡ t → Written t n at old new → Written u n at old new
+pub written-as : {t u : List ℕ} {n at : ℕ} {old new : List ℕ} → u ≡ t → Written t n at old new → Written u n at old new
 written-as e h = rw e h
 
 module _ (s : State) (part edges levels entries : List ℕ) where

@@ -46,10 +46,6 @@ empty-code = refl
 
 -- ---- the pass that counts, and the pass that writes
 module _ (g : Graph) (k : ℕ) (t : List ℕ) where
-  pub entries-of : entriesUpTo g t (maxOf t) k ≡ entriesOf g k t
-  unfolding entriesOf
-  entries-of = refl
-
   pub listed-room : (r m q m′ : ℕ) (s a b s′ old new : List ℕ) → Went 0 0 r m (entriesUpTo g t (maxOf t) k) s a b → Went 0 0 q m′ (entriesUpTo g t (maxOf t) k) s′ old new
       → r ≤ length old / 2 → Listed r (entriesOf g k t) old new
   unfolding entriesOf

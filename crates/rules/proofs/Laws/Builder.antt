@@ -1,29 +1,25 @@
 -- The builder's tables are accepted, its classes are those of path-bisimulation, and no accepted classes are coarser.
 use Prim.Native.Nat.{ℕ, zero, suc, _+_, _*_, _/_, _%_, _≤_, _<_}
-use mathlib.Core.Path.{_≡_, sym, ap, _∙_}
-use mathlib.Core.Logic.{_↔_, ⊎-elim}
+use mathlib.Core.Path.{_≡_, sym, _∙_}
+use mathlib.Core.Logic.{_↔_}
 use mathlib.Core.List.{List}
-use mathlib.Core.Bool.{true, false, not}
+use mathlib.Core.Bool.{Bool, true}
 use native.Mathlib.Omega.{arith}
-use borrow.Author.Tests.{eqb-true, eq-eqb, ne-eqb}
-use lib.Dec.{eqb}
 use lib.ListN.{getD}
-use Rattle.rules.specs.Finite.{firstBelow}
 use Rattle.rules.specs.Graph.{Graph, connected}
 use Rattle.rules.specs.Rule.{Rule}
-use Rattle.rules.specs.Levels.{numberAt, numbering, agree, agreeAt, connectedAt, firstOf, levelOf, builtLevels, builtLevel}
+use Rattle.rules.specs.Levels.{numberAt, numbering, agreeAt, connectedAt, firstOf, levelOf, builtLevels, builtLevel}
 use Rattle.rules.specs.Published.{Walk, Bisimilar}
 use Rattle.rules.specs.Accept.{numberOk, levelOk, LevelAccepted, LevelsAccepted}
-use Rattle.rules.proofs.Laws.Tests.{either}
-use Rattle.rules.proofs.Laws.Finite.{first-is}
 use Rattle.rules.proofs.Laws.Places.{place-lt, place-row, place-column}
 use Rattle.rules.proofs.Laws.Agree.{Twins, Agree, agree-find, agree-here, agree-refl, agree-sym, agree-trans, agree-below}
 use Rattle.rules.proofs.Laws.Graph.{conn-walk, walk-conn}
-use Rattle.rules.proofs.Laws.Accepted.{right-here, accepted-at, connected-number, number-connected}
+use Rattle.rules.proofs.Laws.Accepted.{accepted-at, connected-number, number-connected}
 use Rattle.rules.proofs.Laws.Bisim.{bisim-ends, bisim-steps, bisim-sym, bisim-there}
 use Rattle.rules.proofs.Laws.Levels.{level-is, level-written}
-use Rattle.rules.proofs.Laws.AllOrNone.{agree-bisim, accepted-bisim}
+use Rattle.rules.proofs.Laws.AllOrNone.{accepted-bisim}
 use Rattle.rules.proofs.Laws.Numbering
+use Rattle.rules.proofs.Laws.Numbered.{Equivalence, numbered-accepted}
 
 -- agreement at positions is an equivalence relation
 module _ (ρ : Rule) (g : Graph) (i : ℕ) (T : ℕ → List ℕ) where
@@ -55,41 +51,25 @@ module _ (ρ : Rule) (g : Graph) (i : ℕ) (T : ℕ → List ℕ) where
   pub class-at : (n p : ℕ) → p < n → getD (classes n) p 0 ≡ number p
   class-at = Numbering.numbering-at (connectedAt g i) (agreeAt ρ g i T)
 
-  pub class-same : (p q : ℕ) → connectedAt g i p ≡ true → connectedAt g i q ≡ true → number p ≡ number q → agreeAt ρ g i T p q ≡ true
-  class-same = Numbering.same-related (connectedAt g i) (agreeAt ρ g i T) (at-refl ρ g i T) (at-sym ρ g i T) (at-trans ρ g i T)
-
   pub class-related : (p q : ℕ) → connectedAt g i p ≡ true → connectedAt g i q ≡ true → agreeAt ρ g i T p q ≡ true → number p ≡ number q
   class-related = Numbering.related-same (connectedAt g i) (agreeAt ρ g i T) (at-refl ρ g i T) (at-sym ρ g i T) (at-trans ρ g i T)
 
-  class-zeros : (p : ℕ) → eqb (number p) 0 ≡ not (connectedAt g i p)
-  class-zeros p =
-      ⊎-elim
-      (λ (e : connectedAt g i p ≡ true).
-      ne-eqb (number p) 0 (λ z. omega (arith, Numbering.number-some (connectedAt g i) (agreeAt ρ g i T) p e)) ∙ ap not (sym e))
-      (λ (e : connectedAt g i p ≡ false). eq-eqb (number p) 0 (Numbering.number-out (connectedAt g i) (agreeAt ρ g i T) p e) ∙ ap not (sym e))
-      (either (connectedAt g i p))
+-- a level numbered by any equivalence that gives agreement is accepted
+pub numbered-level : (ρ : Rule) (g : Graph) (i : ℕ) (T : ℕ → List ℕ) (same : ℕ → ℕ → Bool) → Equivalence same
+    → ((p q : ℕ) → p < g .items * g .items → q < g .items * g .items → connectedAt g i p ≡ true → connectedAt g i q ≡ true
+    → same p q ≡ true → agreeAt ρ g i T p q ≡ true)
+    → T i ≡ numbering (connectedAt g i) same (g .items * g .items) → LevelAccepted ρ g i T
+unfolding LevelAccepted levelOk
+numbered-level ρ g i T same eqv gives own p h =
+    rw own (numbered-accepted (connectedAt g i) same eqv (agreeAt ρ g i T) (g .items * g .items) gives p h)
 
-  class-first : (n p : ℕ) → p < n → 0 < number p → agreeAt ρ g i T p (firstOf n (classes n) (number p)) ≡ true
-  unfolding firstOf
-  class-first n p h l =
-      let t = classes n in
-      let f = first-is n (λ q. eqb (getD t q 0) (number p)) p h (eq-eqb _ _ (class-at n p h)) in
-      let F = firstBelow n (λ q. eqb (getD t q 0) (number p)) in
-      let e : number p ≡ number F = sym (eqb-true (getD t F 0) (number p) (f .passes)) ∙ class-at n F (f .below) in
-      class-same p F (Numbering.number-in (connectedAt g i) (agreeAt ρ g i T) p l)
-      (Numbering.number-in (connectedAt g i) (agreeAt ρ g i T) F (rw e at l)) e
-
-  pub class-ok : T i ≡ classes (g .items * g .items) → LevelAccepted ρ g i T
-  unfolding LevelAccepted
-  class-ok own p h =
-      let n = g .items * g .items in
-      let e : getD (T i) p 0 ≡ number p = rw own (class-at n p h) in
-      right-here ρ g i T p
-      (record {
-        zeros = rw e (class-zeros p);
-        next = rw (e, own, Numbering.numbering-take (connectedAt g i) (agreeAt ρ g i T) n p (omega arith)) (Numbering.number-next (connectedAt g i) (agreeAt ρ g i T) p);
-        agrees = λ l. rw (e, own) (class-first n p h (rw e at l));
-      })
+-- and so by agreement itself
+pub class-ok : (ρ : Rule) (g : Graph) (i : ℕ) (T : ℕ → List ℕ)
+    → T i ≡ numbering (connectedAt g i) (agreeAt ρ g i T) (g .items * g .items) → LevelAccepted ρ g i T
+class-ok ρ g i T =
+    numbered-level ρ g i T (agreeAt ρ g i T)
+    (record { reflexive = at-refl ρ g i T; symmetric = at-sym ρ g i T; transitive = at-trans ρ g i T })
+    (λ p q hp hq cp cq e. e)
 
 -- acceptance looks at the levels 0 to k only
 pub accepted-same : (ρ : Rule) (g : Graph) (k : ℕ) (S T : ℕ → List ℕ) → ((i : ℕ) → i ≤ k → S i ≡ T i) → LevelsAccepted ρ g k S → LevelsAccepted ρ g k T
@@ -177,14 +157,6 @@ module _ (ρ : Rule) (g : Graph) where
         λ e. accepted-bisim ρ g i T (builder-accepted i) i o (omega arith) v u x y hv hu hx hy e (connected-number ρ g i T (level-ok i o) v u hv hu ca),
         λ d. agree-same i v u x y o hv hu hx hy ca (walk-conn g x b) (bisim-agree i v u x y hv hu hx hy d),
       )
-
-  -- agreement over the builder's own tables of the levels below is path-bisimulation
-  pub agree-iff-bisim : (i v u x y : ℕ) → v < g .items → u < g .items → x < g .items → y < g .items
-      → (agree ρ g i (builtLevel ρ g) v u x y ≡ true) ↔ Bisimilar ρ g i v u x y
-  agree-iff-bisim i v u x y hv hu hx hy = (
-    λ e. agree-bisim ρ g i (builtLevel ρ g) (builder-accepted i) i (omega arith) v u x y hv hu hx hy (agree-find ρ g i (builtLevel ρ g) v u x y e),
-    λ d. agree-here ρ g i (builtLevel ρ g) v u x y (bisim-agree i v u x y hv hu hx hy d),
-  )
 
   -- accepted classes are the builder's or finer
   pub accepted-finer : (k : ℕ) (T : ℕ → List ℕ) → LevelsAccepted ρ g k T → (i : ℕ) → 0 < i → i ≤ k

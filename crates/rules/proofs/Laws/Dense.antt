@@ -1,19 +1,19 @@
 -- Tables whose numbers are each at most one above the largest before: every number from 1 to the largest occurs, and first positions ascend with their numbers.
-use Prim.Native.Nat.{ℕ, zero, suc, _+_, _≤_, _<_, max}
+use Prim.Native.Nat.{ℕ, zero, suc, _≤_, _<_, max}
 use mathlib.Core.Path.{_≡_, refl, sym, ap, _∙_, subst}
 use mathlib.Core.Logic.{_⊎_, inl, inr, ⊎-elim}
 use mathlib.Core.List.{List, [], _∷_, _++_}
-use mathlib.Core.Bool.{Bool, true, false, _&&_}
-use native.Mathlib.Nat.{eq-zero-or-pos, eq-or-lt-of-le}
+use mathlib.Core.Bool.{true, false, _&&_}
+use native.Mathlib.Nat.{eq-or-lt-of-le}
 use native.Mathlib.Omega.{arith}
-use borrow.Author.Tests.{eqb-true, eq-eqb, ne-eqb, lt-ltb, ltb-true}
+use borrow.Author.Tests.{eqb-true, eq-eqb, lt-ltb, ltb-true}
 use lib.Dec.{eqb, ltb}
-use lib.ListN.{length, getD, take, drop}
+use lib.ListN.{length, getD, take}
 use lib.Seq.{take-suc, take-all, getD-take}
 use Rattle.rules.specs.Finite.{firstBelow, countBelow}
 use Rattle.rules.specs.Levels.{maxOf, firstOf}
 use Rattle.rules.specs.Stored.{leader}
-use Rattle.rules.proofs.Laws.Tests.{order, and-left, and-right, and-intro, not-both, not-true-of}
+use Rattle.rules.proofs.Laws.Tests.{order, and-left, and-right, and-intro, not-true-of}
 use Rattle.rules.proofs.Laws.Finite.{first-is, first-le}
 use Rattle.rules.proofs.Laws.Listing.{count-skip, count-add}
 use Rattle.rules.proofs.Laws.Numbering.{max-bounds}

@@ -1,7 +1,7 @@
 -- What the tests, counts and lists over the numbers below a bound say.
 use Prim.Native.Nat.{ℕ, zero, suc, _≤_, _<_}
 use mathlib.Core.Path.{_≡_, refl, sym, _∙_, subst}
-use mathlib.Core.Logic.{_↔_, _⊎_, inl, inr, ⊎-elim}
+use mathlib.Core.Logic.{_⊎_, inl, inr, ⊎-elim}
 use mathlib.Core.Bool.{Bool, true, false, false≢true, true≢false}
 use native.Mathlib.Nat.{le-of-suc-le-suc, not-suc-le-zero, eq-or-lt-of-le}
 use native.Mathlib.Omega.{arith}
@@ -29,9 +29,6 @@ any-here (suc n) f i h e =
     (λ l. or-left (anyBelow n f) (f n) (any-here n f i l e))
     (below-cases h)
 
-pub any-iff : (n : ℕ) (f : ℕ → Bool) → (anyBelow n f ≡ true) ↔ ((i : ℕ) × (i < n) × (f i ≡ true))
-any-iff n f = (any-find n f, λ r. any-here n f (r .0) (r .1) (r .2))
-
 pub any-none : (n : ℕ) (f : ℕ → Bool) → anyBelow n f ≡ false → (i : ℕ) → i < n → f i ≡ false
 any-none n f e i h = not-true-of (f i) (λ t. true≢false (sym (any-here n f i h t) ∙ e))
 
@@ -50,9 +47,6 @@ pub all-intro : (n : ℕ) (f : ℕ → Bool) → ((i : ℕ) → i < n → f i �
 unfolding allBelow
 all-intro zero f h = refl
 all-intro (suc n) f h = and-intro (allBelow n f) (f n) (all-intro n f (λ i l. h i (omega arith))) (h n (omega arith))
-
-pub all-iff : (n : ℕ) (f : ℕ → Bool) → (allBelow n f ≡ true) ↔ ((i : ℕ) → i < n → f i ≡ true)
-all-iff n f = (all-at n f, all-intro n f)
 
 -- the first that passes: one more turn
 pub first-old : (n : ℕ) (f : ℕ → Bool) → anyBelow n f ≡ true → firstBelow (suc n) f ≡ firstBelow n f

@@ -35,9 +35,6 @@ edge-here es v u l h =
     any-here (length es / 3) (λ e. edgeIs es e v u l) (h .at) (h .in-table)
     (and-intro _ _ (and-intro _ _ (eq-eqb _ _ (h .source)) (eq-eqb _ _ (h .target))) (eq-eqb _ _ (h .label)))
 
-pub edge-iff : (es : List ℕ) (v u l : ℕ) → (hasEdge es v u l ≡ true) ↔ InTable es v u l
-edge-iff es v u l = (edge-find es v u l, edge-here es v u l)
-
 module _ (g : Graph) where
   -- label l forward is 2l+1, backward 2l+2
   pub leads-forward : (l v u : ℕ) → leads g (2 * l + 1) v u ≡ g .edge v u l

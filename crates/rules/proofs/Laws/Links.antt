@@ -1,10 +1,10 @@
 -- What each link of a chain of refusals says when it refuses nothing, and when it does.
-use Prim.Native.Nat.{ℕ, zero, suc, _+_, _*_, _/_, _%_, _≤_, _<_}
-use mathlib.Core.Path.{_≡_, refl}
+use Prim.Native.Nat.{ℕ, _+_, _*_, _/_, _%_, _≤_, _<_}
+use mathlib.Core.Path.{_≡_}
 use mathlib.Core.List.{List}
 use mathlib.Core.Bool.{false, _||_, not}
 use native.Mathlib.Omega.{arith}
-use borrow.Author.Tests.{eqb-true, eqb-false, ltb-false, leb-false, le-ltb, ne-eqb, not-false}
+use borrow.Author.Tests.{eqb-true, eqb-false, ltb-false, leb-false, le-ltb, not-false}
 use lib.Dec.{eqb, leb, ltb}
 use lib.ListN.{length, getD}
 use Rattle.rules.specs.declared.Refusal.the-variants.{Sizes, LevelCount, EdgeCount, Edge, Room}
@@ -29,12 +29,6 @@ sizes-fit n l e =
       labels-some = some-of l (eqb-false l 0 (or-false-left (eqb l 0) (ltb 8 l) b));
       labels-fit = ltb-false 8 l (or-false-right (eqb l 0) (ltb 8 l) b);
     }
-
-pub fit-sizes : (items labels : ℕ) → SizesFit items labels → sizes items labels ≡ good
-unfolding sizes
-fit-sizes n l f =
-    good-when (ltb 128 n || (eqb l 0 || ltb 8 l)) Sizes
-    (rw (le-ltb 128 n (f .items-fit), ne-eqb l 0 (λ q. omega (arith, f .labels-some)), le-ltb 8 l (f .labels-fit)) refl)
 
 -- 2
 pub record LevelsFit (k : ℕ) : Type 0 where

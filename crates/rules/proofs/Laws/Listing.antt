@@ -1,7 +1,7 @@
 -- Counts, and the ascending list of the numbers below a bound that pass.
 use Prim.Native.Nat.{ℕ, zero, suc, _+_, _≤_, _<_}
 use mathlib.Core.Path.{_≡_, refl, sym, ap, _∙_, subst}
-use mathlib.Core.Logic.{_↔_, ⊎-elim}
+use mathlib.Core.Logic.{⊎-elim}
 use mathlib.Core.List.{[], _∷_, _++_, append-nil, List·Memᴰ, List·Memᴰ·not-nil, List·Memᴰ·append-cases, List·Memᴰ·eq-of-singleton, List·Memᴰ·head, Memᴰ·append-left, Memᴰ·append-right}
 use mathlib.Core.Bool.{Bool, true, false, cond}
 use native.Mathlib.Omega.{arith}
@@ -136,9 +136,6 @@ module _ (f : ℕ → Bool) where
       (λ (t : f n ≡ false). rw (list-skip n t) (list-here n i b e))
       (either (f n)))
       (below-cases h)
-
-  pub list-iff : (n i : ℕ) → List·Memᴰ i (listBelow n f) ↔ ((i < n) × (f i ≡ true))
-  list-iff n i = (list-find n i, λ r. list-here n i (r .0) (r .1))
 
 pub count-same : (n : ℕ) (f h : ℕ → Bool) → ((i : ℕ) → i < n → f i ≡ h i) → countBelow n f ≡ countBelow n h
 unfolding countBelow

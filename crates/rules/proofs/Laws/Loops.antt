@@ -2,7 +2,7 @@
 use Prim.Native.Nat.{ℕ, _+_, _≤_, _<_}
 use mathlib.Core.Path.{_≡_, refl, sym}
 use mathlib.Core.Logic.{⊎-elim}
-use mathlib.Core.Bool.{Bool, true, false}
+use mathlib.Core.Bool.{Bool, true, false, _||_}
 use native.Mathlib.Nat.{eq-or-lt-of-le}
 use native.Mathlib.Numerals.{add-one}
 use native.Mathlib.Omega.{arith}
@@ -18,6 +18,10 @@ module _ (f : ℕ → Bool) where
   pub any-more : (i : ℕ) → anyBelow i f ≡ false → f i ≡ false → anyBelow (i + 1) f ≡ false
   unfolding anyBelow
   any-more i h e = rw (add-one, h) e
+
+  pub any-step : (i : ℕ) → anyBelow (i + 1) f ≡ (anyBelow i f || f i)
+  unfolding anyBelow
+  any-step i = rw add-one
 
   pub all-start : allBelow 0 f ≡ true
   unfolding allBelow

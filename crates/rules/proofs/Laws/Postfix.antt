@@ -1,19 +1,34 @@
 -- A token list asks the query q exactly if it is q written operands first, of at most 64 tokens and never with more than 8 operands waiting.
-use Prim.Native.Nat.{ℕ, suc, _+_, _*_, _≤_, _<_}
+use Prim.Native.Nat.{ℕ, suc, _+_, _*_, _≤_, _<_, max}
 use mathlib.Core.Path.{_≡_, refl, sym, ap, _∙_}
+use mathlib.Core.Logic.{⊎-elim}
 use mathlib.Core.List.{List, [], _∷_, _++_, append-nil, append-assoc}
 use mathlib.Core.Bool.{Bool, true, false, _&&_, cond}
+use native.Mathlib.Numerals.{add-one}
 use native.Mathlib.Omega.{arith}
-use borrow.Author.Tests.{lt-ltb, le-leb, lt-leb, eqb-true, ne-eqb}
+use borrow.Author.Tests.{lt-ltb, le-ltb, le-leb, lt-leb, eqb-true, ne-eqb}
 use lib.Dec.{eqb, leb, ltb}
-use lib.ListN.{length}
-use Rattle.rules.specs.declared.Refusal.the-variants.{QueryLength, NinthOperand}
+use lib.ListN.{length, length-append}
+use Rattle.rules.specs.declared.Refusal.the-variants.{QueryLength, NinthOperand, Unknown as UnknownAt}
 use Rattle.rules.specs.declared.Token.{Token}
 use Rattle.rules.specs.declared.Token.the-variants.{Identity, Step, Join, Conjunction, Unknown}
 use Rattle.rules.specs.Query.{Atom, identity, step, Query, atom, join, both}
 use Rattle.rules.specs.Reading.{tokenOf, Reading, fault, asks, push, fold2, act, end, readFrom, readTokens, spell, tokens, waiting}
 use Rattle.rules.specs.Published.{AtomFormed, WellFormed}
+use Rattle.rules.proofs.Laws.Tests.{order}
 use Rattle.rules.proofs.Laws.Reading.{fault-asks, asks-inj}
+
+-- how reading goes on from the tokens of q: behind them with q waiting, or it is refused with 8 or 10 at one of them
+pub data ReadBack (l : ℕ) (q : Query) (rest : List ℕ) (at : ℕ) (ws : List Query) (r : Reading) : Type 0 where
+  goes-on : WellFormed l q → length ws + waiting q ≤ 8 → r ≡ readFrom l rest (at + length (tokens q)) (q ∷ ws) → ReadBack l q rest at ws r
+  unknown : (place : ℕ) → (WellFormed l q → ⊥) → at ≤ place → place < at + length (tokens q) → r ≡ fault (UnknownAt place) → ReadBack l q rest at ws r
+  ninth : (place : ℕ) → 8 < length ws + waiting q → at ≤ place → place < at + length (tokens q) → r ≡ fault (NinthOperand place) → ReadBack l q rest at ws r
+
+pub tokens-some : (q : Query) → 0 < length (tokens q)
+unfolding tokens
+tokens-some (atom a) = omega arith
+tokens-some (join p q) = rw length-append (omega (arith, tokens-some p))
+tokens-some (both p q) = rw length-append (omega (arith, tokens-some p))
 
 module _ (l : ℕ) (few : l ≤ 8) where
   token-step : (s : ℕ) → 0 < s → s ≤ 2 * l → tokenOf l s ≡ Step s
@@ -38,6 +53,18 @@ module _ (l : ℕ) (few : l ≤ 8) where
   read-atom identity w rest at ws h = rw (token-zero, lt-ltb (length ws) 8 h)
   read-atom (step s) w rest at ws h = rw (token-step s (w .0) (w .1), lt-ltb (length ws) 8 h)
 
+  read-ninth : (a : Atom) → AtomFormed l a → (rest : List ℕ) (at : ℕ) (ws : List Query) → 8 ≤ length ws
+      → readFrom l (spell a ∷ rest) at ws ≡ fault (NinthOperand at)
+  unfolding readFrom act push spell AtomFormed
+  read-ninth identity w rest at ws h = rw (token-zero, le-ltb (length ws) 8 h)
+  read-ninth (step s) w rest at ws h = rw (token-step s (w .0) (w .1), le-ltb (length ws) 8 h)
+
+  -- a step of a label that is not there
+  read-unknown : (s : ℕ) → 2 * l < s → s ≤ 16 → (rest : List ℕ) (at : ℕ) (ws : List Query) → readFrom l (s ∷ rest) at ws ≡ fault (UnknownAt at)
+  unfolding readFrom act tokenOf
+  read-unknown s p h rest at ws =
+      rw (ne-eqb s 0 (λ q. omega arith), lt-leb s (2 * l) p, ne-eqb s 32 (λ q. omega arith), ne-eqb s 33 (λ q. omega arith))
+
   read-join : (p q : Query) (rest : List ℕ) (at : ℕ) (ws : List Query) → readFrom l (32 ∷ rest) at (q ∷ (p ∷ ws)) ≡ readFrom l rest (suc at) (join p q ∷ ws)
   unfolding readFrom act fold2
   read-join p q rest at ws = rw token-join
@@ -46,38 +73,91 @@ module _ (l : ℕ) (few : l ≤ 8) where
   unfolding readFrom act fold2
   read-both p q rest at ws = rw token-both
 
-  -- the tokens of q leave q waiting
-  pub read-tokens : (q : Query) → WellFormed l q → (rest : List ℕ) (at : ℕ) (ws : List Query) → length ws + waiting q ≤ 8
-      → (end : ℕ) × (readFrom l (tokens q ++ rest) at ws ≡ readFrom l rest end (q ∷ ws))
-  unfolding tokens waiting WellFormed
-  read-tokens (atom a) w rest at ws h = (suc at, read-atom a w rest at ws (omega arith))
-  read-tokens (join p q) w rest at ws h =
-      let a = read-tokens p (w .0) ((tokens q ++ (32 ∷ [])) ++ rest) at ws (omega arith) in
-      let b = read-tokens q (w .1) (32 ∷ rest) (a .0) (p ∷ ws) (omega arith) in (
-        suc (b .0),
-        ap (λ (z : List ℕ). readFrom l z at ws) (append-assoc (tokens p) (tokens q ++ (32 ∷ [])) rest)
-            ∙ a .1
-            ∙ ap (λ (z : List ℕ). readFrom l z (a .0) (p ∷ ws)) (append-assoc (tokens q) (32 ∷ []) rest)
-            ∙ b .1
-            ∙ read-join p q rest (b .0) ws,
-      )
-  read-tokens (both p q) w rest at ws h =
-      let a = read-tokens p (w .0) ((tokens q ++ (33 ∷ [])) ++ rest) at ws (omega arith) in
-      let b = read-tokens q (w .1) (33 ∷ rest) (a .0) (p ∷ ws) (omega arith) in (
-        suc (b .0),
-        ap (λ (z : List ℕ). readFrom l z at ws) (append-assoc (tokens p) (tokens q ++ (33 ∷ [])) rest)
-            ∙ a .1
-            ∙ ap (λ (z : List ℕ). readFrom l z (a .0) (p ∷ ws)) (append-assoc (tokens q) (33 ∷ []) rest)
-            ∙ b .1
-            ∙ read-both p q rest (b .0) ws,
-      )
+  back-known : (a : Atom) → AtomFormed l a → (rest : List ℕ) (at : ℕ) (ws : List Query) → ReadBack l (atom a) rest at ws (readFrom l (spell a ∷ rest) at ws)
+  unfolding waiting tokens WellFormed
+  back-known a f rest at ws =
+      ⊎-elim
+      (λ (h : length ws < 8). goes-on f (omega arith) (rw add-one (read-atom a f rest at ws h)))
+      (λ (h : 8 ≤ length ws). ninth at (omega arith) (omega arith) (omega arith) (read-ninth a f rest at ws h))
+      (order (length ws) 8)
 
-  pub reads : (q : Query) → WellFormed l q → waiting q ≤ 8 → 0 < length (tokens q) → length (tokens q) ≤ 64 → readTokens l (tokens q) ≡ asks q
+  back-atom : (a : Atom) → AtomFormed 8 a → (rest : List ℕ) (at : ℕ) (ws : List Query) → ReadBack l (atom a) rest at ws (readFrom l (spell a ∷ rest) at ws)
+  unfolding spell tokens WellFormed AtomFormed
+  back-atom identity w rest at ws = back-known identity tt rest at ws
+  back-atom (step s) w rest at ws =
+      ⊎-elim
+      (λ (h : 2 * l < s). unknown at (λ f. omega (arith, f .1)) (omega arith) (omega arith) (read-unknown s h (w .1) rest at ws))
+      (λ (h : s ≤ 2 * l). back-known (step s) (w .0, h) rest at ws)
+      (order (2 * l) s)
+
+  -- r is made of p and q by the sign
+  module _ (p q r : Query) (sign : ℕ)
+      (spelled : tokens r ≡ tokens p ++ (tokens q ++ (sign ∷ [])))
+      (waits : waiting r ≡ max (waiting p) (suc (waiting q)))
+      (formed : WellFormed l p → WellFormed l q → WellFormed l r)
+      (parts : WellFormed l r → WellFormed l p × WellFormed l q)
+      (folds : (rest : List ℕ) (at : ℕ) (ws : List Query) → readFrom l (sign ∷ rest) at (q ∷ (p ∷ ws)) ≡ readFrom l rest (suc at) (r ∷ ws))
+    where
+      long : length (tokens r) ≡ length (tokens p) + length (tokens q) + 1
+      long = rw (spelled, length-append, length-append) (omega arith)
+
+      back-second : (rest : List ℕ) (at : ℕ) (ws : List Query) → WellFormed l p → length ws + waiting p ≤ 8 → (x : Reading)
+          → ReadBack l q (sign ∷ rest) (at + length (tokens p)) (p ∷ ws) x → ReadBack l r rest at ws x
+      back-second rest at ws w h x (goes-on v k e) =
+          goes-on (formed w v) (omega (arith, waits))
+          (e ∙ folds rest (at + length (tokens p) + length (tokens q)) ws ∙ ap (λ (n : ℕ). readFrom l rest n (r ∷ ws)) (omega (arith, long)))
+      back-second rest at ws w h x (unknown n v a b e) = unknown n (λ f. v (parts f .1)) (omega arith) (omega (arith, long)) e
+      back-second rest at ws w h x (ninth n k a b e) = ninth n (omega (arith, waits)) (omega arith) (omega (arith, long)) e
+
+      back-first : (rest : List ℕ) (at : ℕ) (ws : List Query)
+          → ((rest : List ℕ) (at : ℕ) (ws : List Query) → ReadBack l q rest at ws (readFrom l (tokens q ++ rest) at ws)) → (x : Reading)
+          → ReadBack l p (tokens q ++ (sign ∷ rest)) at ws x → ReadBack l r rest at ws x
+      back-first rest at ws again x (goes-on w h e) =
+          rw e (back-second rest at ws w h _ (again (sign ∷ rest) (at + length (tokens p)) (p ∷ ws)))
+      back-first rest at ws again x (unknown n v a b e) = unknown n (λ f. v (parts f .0)) a (omega (arith, long)) e
+      back-first rest at ws again x (ninth n k a b e) = ninth n (omega (arith, waits)) a (omega (arith, long)) e
+
+      back-pair : (rest : List ℕ) (at : ℕ) (ws : List Query)
+          → ((rest : List ℕ) (at : ℕ) (ws : List Query) → ReadBack l p rest at ws (readFrom l (tokens p ++ rest) at ws))
+          → ((rest : List ℕ) (at : ℕ) (ws : List Query) → ReadBack l q rest at ws (readFrom l (tokens q ++ rest) at ws))
+          → ReadBack l r rest at ws (readFrom l (tokens r ++ rest) at ws)
+      back-pair rest at ws first second =
+          let e : tokens r ++ rest ≡ tokens p ++ (tokens q ++ (sign ∷ rest)) = rw spelled (simp append-assoc) in
+          rw e (back-first rest at ws second _ (first (tokens q ++ (sign ∷ rest)) at ws))
+
+  -- a query over eight labels, read from its tokens over l of them
+  pub read-back : (q : Query) → WellFormed 8 q → (rest : List ℕ) (at : ℕ) (ws : List Query) → ReadBack l q rest at ws (readFrom l (tokens q ++ rest) at ws)
+  unfolding tokens waiting WellFormed
+  read-back (atom a) w rest at ws = back-atom a w rest at ws
+  read-back (join p q) w rest at ws =
+      back-pair p q (join p q) 32 refl refl (λ a b. (a, b)) (λ f. f) (read-join p q) rest at ws (read-back p (w .0)) (read-back q (w .1))
+  read-back (both p q) w rest at ws =
+      back-pair p q (both p q) 33 refl refl (λ a b. (a, b)) (λ f. f) (read-both p q) rest at ws (read-back p (w .0)) (read-back q (w .1))
+
+  wider : (q : Query) → WellFormed l q → WellFormed 8 q
+  unfolding WellFormed AtomFormed
+  wider (atom identity) w = tt
+  wider (atom (step s)) w = (w .0, omega (arith, w .1))
+  wider (join p q) w = (wider p (w .0), wider q (w .1))
+  wider (both p q) w = (wider p (w .0), wider q (w .1))
+
+  -- the whole list
+  pub back-whole : (q : Query) → WellFormed 8 q → length (tokens q) ≤ 64 → ReadBack l q [] 0 [] (readTokens l (tokens q))
   unfolding readTokens
-  reads q w h some few′ =
-      let r = read-tokens q w [] 0 [] (omega arith) in
-      rw (lt-ltb 0 (length (tokens q)) some, le-leb (length (tokens q)) 64 few′)
-      (ap (λ (z : List ℕ). readFrom l z 0 []) (sym (append-nil (tokens q))) ∙ r .1 ∙ unfold readFrom end in refl)
+  back-whole q w few′ =
+      rw (lt-ltb 0 (length (tokens q)) (tokens-some q), le-leb (length (tokens q)) 64 few′)
+      (ap-back (append-nil (tokens q)) (read-back q w [] 0 []))
+    where
+      ap-back : {xs ys : List ℕ} → xs ≡ ys → ReadBack l q [] 0 [] (readFrom l xs 0 []) → ReadBack l q [] 0 [] (readFrom l ys 0 [])
+      ap-back e r = rw e at r
+
+  pub reads : (q : Query) → WellFormed l q → waiting q ≤ 8 → length (tokens q) ≤ 64 → readTokens l (tokens q) ≡ asks q
+  reads q w h few′ = go (readTokens l (tokens q)) (back-whole q (wider q w) few′)
+    where
+      go : (r : Reading) → ReadBack l q [] 0 [] r → r ≡ asks q
+      go r (goes-on v k e) = e ∙ unfold readFrom end in refl
+      go r (unknown n v a b e) = absurd (v w)
+      go r (ninth n k a b e) = absurd (omega arith)
 
 -- the other way: the tokens of what waits, the latest last
 flat : List Query → List ℕ

@@ -1,11 +1,11 @@
 -- A list with a part written over, one element more at a time.
 use Prim.Native.Nat.{ℕ, suc, _+_, _≤_, _<_}
-use mathlib.Core.Path.{_≡_, sym, ap, _∙_}
+use mathlib.Core.Path.{_≡_, _∙_}
 use mathlib.Core.List.{List, [], _∷_, _++_, append-assoc}
 use native.Mathlib.Nat.{add-zero}
 use native.Mathlib.Omega.{arith}
 use lib.ListN.{length, getD, take, drop, set, length-append, length-take, length-drop, take-append-drop}
-use lib.Seq.{length-take-le, set-at, take-at, drop-at, drop-cons, take-append-le, drop-append-le}
+use lib.Seq.{length-take-le, set-at, take-at, drop-at, drop-cons}
 use Rattle.rules.specs.Writing.{put}
 
 pub length-snoc : (s : List ℕ) (k : ℕ) → length (s ++ (k ∷ [])) ≡ length s + 1
@@ -35,15 +35,3 @@ module _ (l : List ℕ) (at : ℕ) where
   pub put-read : (s : List ℕ) (p : ℕ) → length s ≡ p → at ≤ length l → take p (drop at (put l at s)) ≡ s
   unfolding put
   put-read s p e h = rw (drop-at (take at l) (s ++ drop (at + length s) l) at (length-take-le at l h), take-at s (drop (at + length s) l) p e)
-
-  front : (m below : ℕ) (rest : List ℕ) → below + m ≤ at → at ≤ length l → take m (drop below (take at l ++ rest)) ≡ take m (drop below (take at l))
-  front m below rest h h' =
-      let n : length (take at l) ≡ at = length-take-le at l h' in
-      rw (drop-append-le below (take at l) rest (omega (arith, n)))
-      (take-append-le m (drop below (take at l)) rest (rw (length-drop, n) (omega arith)))
-
-  pub put-below : (s : List ℕ) (m below : ℕ) → below + m ≤ at → at ≤ length l → take m (drop below (put l at s)) ≡ take m (drop below l)
-  unfolding put
-  put-below s m below h h' =
-      front m below (s ++ drop (at + length s) l) h h' ∙ sym (front m below (drop at l) h h')
-      ∙ ap (λ (z : List ℕ). take m (drop below z)) (take-append-drop at l)

@@ -1,7 +1,6 @@
 -- What it is to meet a query: the test and the proposition agree, and a pair that meets a query is connected within its diameter.
 use Prim.Native.Nat.{ℕ, _<_, max}
 use mathlib.Core.Path.{_≡_, sym, _∙_, subst}
-use mathlib.Core.Logic.{_↔_}
 use mathlib.Core.Bool.{true, _&&_}
 use native.Mathlib.Nat.{le-max-left}
 use native.Mathlib.Omega.{arith}
@@ -63,9 +62,6 @@ module _ (g : Graph) where
       any-here (g .items) (λ m. meets g p v m && meets g q m u) (r .0) (r .1)
       (and-intro _ _ (meets-here p v (r .0) (r .2)) (meets-here q (r .0) u (r .3)))
   meets-here (both p q) v u r = and-intro _ _ (meets-here p v u (r .0)) (meets-here q v u (r .1))
-
-  pub meets-iff : (q : Query) (v u : ℕ) → (meets g q v u ≡ true) ↔ Meets g q v u
-  meets-iff q v u = (meets-find q v u, meets-here q v u)
 
   -- a query of diameter 0 holds of equal pairs only, and A alone carries it
   pub point-eq : (q : Query) (v u : ℕ) → diameter q ≡ 0 → Meets g q v u → v ≡ u

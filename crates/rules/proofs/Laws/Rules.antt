@@ -2,16 +2,12 @@
 use Prim.Native.Nat.{ℕ, suc}
 use mathlib.Core.Path.{_≡_, refl, ap, _∙_}
 use mathlib.Core.List.{List}
-use mathlib.Core.Bool.{Bool, true, false, _&&_}
+use mathlib.Core.Bool.{Bool, _&&_, and-true}
 use native.Mathlib.Omega.{arith}
 use Rattle.rules.specs.Finite.{allBelow}
 use Rattle.rules.specs.Graph.{Graph}
 use Rattle.rules.specs.Rule.{rule}
 use Rattle.rules.specs.Levels.{sameEnds, sameSteps, twins, splitOk, agree}
-
-and-true : (a : Bool) → (a && true) ≡ a
-and-true true = refl
-and-true false = refl
 
 module _ (g : Graph) (T : ℕ → List ℕ) (v u x y : ℕ) where
   -- A and B

@@ -1,6 +1,6 @@
 -- To be connected within i is to be joined by a sequence of at most i symbols.
 use Prim.Native.Nat.{ℕ, zero, suc, _*_, _≤_, _<_}
-use mathlib.Core.Path.{_≡_, refl, sym, _∙_, subst}
+use mathlib.Core.Path.{_≡_, refl, sym, subst}
 use mathlib.Core.Logic.{⊎-elim}
 use mathlib.Core.List.{List, [], _∷_, _++_}
 use mathlib.Core.Bool.{true, _&&_}
@@ -9,14 +9,11 @@ use borrow.Author.Tests.{eqb-true, eq-eqb}
 use lib.Dec.{eqb}
 use lib.ListN.{length, length-append}
 use Rattle.rules.specs.Graph.{Graph, leads, connected}
-use Rattle.rules.specs.Query.{diameter}
 use Rattle.rules.specs.Lists.{joins}
 use Rattle.rules.specs.Published.{Symbols, end, symbol}
 use Rattle.rules.proofs.Laws.Tests.{and-left, and-right, and-intro}
 use Rattle.rules.proofs.Laws.Finite.{any-find, any-here}
-use Rattle.rules.proofs.Laws.Graph.{adjacent-leads, conn-zero, conn-cases, conn-le}
-use Rattle.rules.proofs.Laws.Query.{meets-find, meets-connected}
-use Rattle.rules.proofs.Laws.Sequences.{sequence, sequence-diameter, sequence-formed, sequence-joins}
+use Rattle.rules.proofs.Laws.Graph.{adjacent-leads, conn-zero, conn-cases}
 
 symbols-snoc : {l s : ℕ} {ss : List ℕ} → Symbols l ss → 0 < s → s ≤ 2 * l → Symbols l (ss ++ (s ∷ []))
 symbols-snoc end p h = symbol p h end
@@ -56,9 +53,3 @@ module _ (g : Graph) where
         joined = joins-snoc (r .by) (s .0) v (t .0) u hu (r .joined) (s .3);
       })
       (conn-cases g i v u e)
-
-  pub sequence-conn : (i v u : ℕ) → v < g .items → Joined i v u → connected g i v u ≡ true
-  sequence-conn i v u hv r =
-      let q = sequence (r .by) in
-      conn-le g (diameter q) i v u (omega (arith, sequence-diameter (r .by), r .short))
-      (meets-connected g q v u (sequence-formed (g .labels) (r .symbols)) hv (meets-find g q v u (sym (sequence-joins g (r .by) v u) ∙ r .joined)))

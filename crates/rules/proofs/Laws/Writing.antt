@@ -2,17 +2,14 @@
 use Prim.Native.Nat.{ℕ, zero, suc, _+_, _*_, _-_, _/_, _%_, _≤_, _<_}
 use mathlib.Core.Path.{_≡_, refl, sym, ap, _∙_}
 use mathlib.Core.List.{List}
-use mathlib.Core.Bool.{_&&_, cond}
 use native.Mathlib.Nat.{suc-mul, zero-mul, not-suc-le-zero, zero-add, add-zero, add-suc, add-assoc, mod-lt, div-add-mod', div-lt-iff-lt-mul}
-use lib.Dec.{eqb}
-use borrow.Author.Tests.{eq-eqb, ne-eqb}
-use native.Mathlib.Decide.{decLt, ℕ-discrete}
+use native.Mathlib.Decide.{decLt}
 use native.Mathlib.Omega.{arith}
 use native.Mathlib.Numerals.{add-one}
 use lib.ListN.{length, getD, set, length-set, replicate}
 use lib.Seq.{getD-set-same, getD-set-other, ext-getD}
 use Rattle.rules.specs.Writing.{fill, rows}
-use Rattle.rules.proofs.Laws.Places.{row-fits, pair-row, pair-column, n-pos}
+use Rattle.rules.proofs.Laws.Places.{row-fits, n-pos}
 
 pub length-fill : (w : List ℕ) (b k : ℕ) (f : ℕ → ℕ) → length (fill w b k f) ≡ length w
 unfolding fill
@@ -146,36 +143,3 @@ rows-of w r b n m f len fits inside outside = ext-getD 0 r (rows w b n m f) (len
         let hu : (j - b) % n < n = mod-lt (j - b) pos in
         let e : j ≡ b + (j - b) / n * n + (j - b) % n = omega (arith, div-add-mod' (j - b) n) in
         pair ((j - b) / n) ((j - b) % n) hv hu j e
-
--- one store among the rows
-pub rows-set : (w : List ℕ) (b n m : ℕ) (f : ℕ → ℕ → ℕ) (s t x : ℕ) → s < m → t < n → b + m * n ≤ length w
-    → set (rows w b n m f) (b + s * n + t) x ≡ rows w b n m (λ v u. cond (eqb s v && eqb t u) x (f v u))
-rows-set w b n m f s t x hs ht fits =
-    rows-of w (set (rows w b n m f) (b + s * n + t) x) b n m (λ v u. cond (eqb s v && eqb t u) x (f v u))
-    (length-set (rows w b n m f) (b + s * n + t) x ∙ length-rows w b n m f) fits inside
-    (λ j h. getD-set-other (rows w b n m f) (b + s * n + t) j x 0 (h s t hs ht) ∙ getD-rows-other w b n m f j h)
-  where
-    inside : (v u : ℕ) → v < m → u < n → getD (set (rows w b n m f) (b + s * n + t) x) (b + v * n + u) 0 ≡ cond (eqb s v && eqb t u) x (f v u)
-    inside v u hv hu = go (ℕ-discrete s v) (ℕ-discrete t u)
-      where
-        go : Dec (s ≡ v) → Dec (t ≡ u) → getD (set (rows w b n m f) (b + s * n + t) x) (b + v * n + u) 0 ≡ cond (eqb s v && eqb t u) x (f v u)
-        go (yes p) (yes q) =
-            rw (eq-eqb s v p, eq-eqb t u q, ← p, ← q)
-            (getD-set-same (rows w b n m f) (b + s * n + t) x 0 (omega (arith, row-fits n hs, length-rows w b n m f)))
-        go (yes p) (no q) =
-            rw (eq-eqb s v p, ne-eqb t u q)
-            (getD-set-other (rows w b n m f) (b + s * n + t) (b + v * n + u) x 0 (λ e. q (pair-column n s t v u ht hu (omega arith)))
-            ∙ getD-rows-in w b n m f v u hv hu fits)
-        go (no p) q =
-            rw (ne-eqb s v p)
-            (getD-set-other (rows w b n m f) (b + s * n + t) (b + v * n + u) x 0 (λ e. p (pair-row n s t v u ht hu (omega arith)))
-            ∙ getD-rows-in w b n m f v u hv hu fits)
-
--- the rows written last stand
-pub rows-over : (w : List ℕ) (b n m : ℕ) (f g : ℕ → ℕ → ℕ) → b + m * n ≤ length w → rows (rows w b n m f) b n m g ≡ rows w b n m g
-rows-over w b n m f g fits =
-    let l : length (rows w b n m f) ≡ length w = length-rows w b n m f in
-    rows-of w (rows (rows w b n m f) b n m g) b n m g
-    (length-rows (rows w b n m f) b n m g ∙ l) fits
-    (λ v u hv hu. getD-rows-in (rows w b n m f) b n m g v u hv hu (omega arith))
-    (λ j h. getD-rows-other (rows w b n m f) b n m g j h ∙ getD-rows-other w b n m f j h)

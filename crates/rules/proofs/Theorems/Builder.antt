@@ -6,8 +6,7 @@ use mathlib.Core.Bool.{Bool, true, false, cond}
 use native.Mathlib.Nat.{mul-le-mul-right}
 use native.Mathlib.Omega.{arith}
 use lib.Dec.{leb}
-use lib.ListN.{length, drop, take, length-append, length-drop}
-use lib.Seq.{take-at}
+use lib.ListN.{length, drop}
 use Rattle.rules.specs.declared.Refusal.{Refusal}
 use Rattle.rules.specs.declared.Refusal.the-variants.{EntryRoom}
 use Rattle.rules.specs.declared.Built.the-variants.{Tables, Refused as NotBuilt}
@@ -19,6 +18,7 @@ use Rattle.rules.specs.Lists.{startsOf, orderOf, entriesOf}
 use Rattle.rules.specs.Verdict.{Verdict, good, refuse, _orElse_}
 use Rattle.rules.specs.Accept.{topOf, Conditions, builtIndex}
 use Rattle.rules.specs.Outcomes.{front, handedOver, BuildCall, BuildEnd, buildRefusal, buildNothing, buildTables, indexFor, buildAfter, build, checkRefusal, checkGraph, check}
+use Rattle.rules.proofs.Laws.Fronts.{front-take, front-length}
 use Rattle.rules.proofs.Laws.Links.{sizes-fit, fits-room}
 use Rattle.rules.proofs.Laws.Calls.{BuildPassed, build-passed}
 use Rattle.rules.proofs.Laws.Levels.{levels-size, level-front, level-written}
@@ -34,15 +34,6 @@ refused-tables e = let z : _≡_ {A = ℕ} 0 1 = cc in absurd (omega arith)
 rising-even : {m a b : ℕ} {l : List ℕ} → Rising m a b l → length l % 2 ≡ 0
 rising-even (none h) = refl
 rising-even (more s h t r) = omega (arith, rising-even r)
-
--- a list at the front, read back
-front-take : (list old : List ℕ) (n : ℕ) → length list ≡ n → take n (front list old) ≡ list
-unfolding front
-front-take list old n e = take-at list (drop (length list) old) n e
-
-front-length : (list old : List ℕ) → length list ≤ length old → length (front list old) ≡ length old
-unfolding front
-front-length list old h = length-append list (drop (length list) old) ∙ omega (arith, length-drop (length list) old)
 
 module _ (c : BuildCall) (classes pairs entries : ℕ) where
   tables-told : (b : Bool) (x y z m : ℕ) → cond b (Tables x y z) (NotBuilt (EntryRoom m)) ≡ Tables classes pairs entries

@@ -1,5 +1,5 @@
 -- Demand 2 for the level tables: the classes that build writes are those of the published path-bisimulation, numbered from 1 by first pair.
-use Prim.Native.Nat.{ℕ, zero, suc, _+_, _*_, _≤_, _<_}
+use Prim.Native.Nat.{ℕ, suc, _*_, _≤_, _<_}
 use mathlib.Core.Path.{_≡_, refl, sym, ap, _∙_}
 use mathlib.Core.Logic.{_↔_, ⊎-elim}
 use mathlib.Core.Bool.{true, not}
@@ -10,12 +10,11 @@ use mathlib.Core.List.{List}
 use native.Mathlib.Omega.{arith}
 use lib.ListN.{length, getD, take}
 use Rattle.rules.specs.Finite.{countBelow}
-use Rattle.rules.specs.Graph.{Graph, connected}
-use Rattle.rules.specs.Rule.{Rule, rule}
+use Rattle.rules.specs.Graph.{Graph}
+use Rattle.rules.specs.Rule.{rule}
 use Rattle.rules.specs.Levels.{numberAt, connectedAt, maxOf, firstOf, builtLevel}
 use Rattle.rules.specs.Lists.{orderOf}
 use Rattle.rules.specs.Stored.{leader}
-use Rattle.rules.specs.Accept.{LevelAccepted}
 use Rattle.rules.specs.Published.{Walk, Bisimilar}
 use Rattle.rules.proofs.Laws.Tests.{same, not-both}
 use Rattle.rules.proofs.Laws.Graph.{conn-walk, walk-conn}

@@ -1,13 +1,13 @@
 -- Sequence to class: the entry list holds exactly the code and class of each sequence of at most k symbols and each class whose pairs it joins, strictly ascending by code, then class.
-use Prim.Native.Nat.{ℕ, zero, suc, _+_, _*_, _/_, _%_, _≤_, _<_}
-use mathlib.Core.Path.{_≡_, refl, sym, ap, _∙_, subst}
+use Prim.Native.Nat.{ℕ, suc, _*_, _/_, _≤_, _<_}
+use mathlib.Core.Path.{_≡_, refl, ap, subst}
 use mathlib.Core.Logic.{_↔_, _⊎_, inl, inr, ⊎-elim}
 use mathlib.Core.List.{List, [], _∷_}
 use mathlib.Core.Bool.{true, _&&_}
 use native.Mathlib.Nat.{eq-or-lt-of-le}
 use native.Mathlib.Omega.{arith}
 use borrow.Author.Tests.{eqb-true, eq-eqb}
-use lib.ListN.{length, getD}
+use lib.ListN.{length}
 use Rattle.rules.specs.declared.Checked.the-variants.{Accepted}
 use Rattle.rules.specs.Graph.{Graph, leads, graphOf}
 use Rattle.rules.specs.Rule.{rule}
@@ -16,7 +16,7 @@ use Rattle.rules.specs.Lists.{joins, codeFrom, joinsClass, entriesUpTo, 
 use Rattle.rules.specs.Stored.{codeAt, classAt}
 use Rattle.rules.specs.Accept.{topOf}
 use Rattle.rules.specs.Outcomes.{CheckCall, checkGraph, check}
-use Rattle.rules.specs.Published.{Step, Joined, here, along-first, Symbols}
+use Rattle.rules.specs.Published.{Joined, here, along-first, Symbols}
 use Rattle.rules.proofs.Laws.Tests.{and-left, and-right, and-intro}
 use Rattle.rules.proofs.Laws.Finite.{any-find, any-here}
 use Rattle.rules.proofs.Laws.Graph.{leads-step, step-leads}

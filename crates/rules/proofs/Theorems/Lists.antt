@@ -1,16 +1,15 @@
 -- Class to pair, for any level-k table: the part of the order list that the starts list gives for a class is exactly its pairs, ascending.
-use Prim.Native.Nat.{ℕ, zero, suc, pred, _+_, _≤_, _<_}
-use mathlib.Core.Path.{_≡_, refl, sym, ap, _∙_, subst}
+use Prim.Native.Nat.{ℕ, zero, suc, _≤_, _<_}
+use mathlib.Core.Path.{_≡_, refl, ap, _∙_}
 use mathlib.Core.Logic.{_↔_}
 use mathlib.Core.List.{List, List·Memᴰ}
-use mathlib.Core.Bool.{true}
 use native.Mathlib.Omega.{arith}
 use borrow.Author.Tests.{eqb-true, eq-eqb, ne-eqb, lt-leb, le-ltb}
 use lib.Dec.{eqb}
 use lib.ListN.{length, getD, length-append}
 use Rattle.rules.specs.declared.Bounds.the-variants.{Part}
 use Rattle.rules.specs.Levels.{maxOf}
-use Rattle.rules.specs.Lists.{pairsOf, orderUpTo, startsUpTo, startsOf, orderOf}
+use Rattle.rules.specs.Lists.{pairsOf, orderUpTo, startsOf, orderOf}
 use Rattle.rules.specs.Outcomes.{partOf, classBounds}
 use Rattle.rules.proofs.Laws.Listing.{list-find, list-here, list-ascending}
 use Rattle.rules.proofs.Laws.ClassLists.{starts-length, starts-at, order-begins, order-part}

@@ -8,7 +8,8 @@ use Rattle.rules.specs.Graph.{edgeIs, hasEdge}
 use Rattle.levels.specs.Marks.{bitAt}
 use Rattle.rules.proofs.Laws.Places.{place-lt}
 use Rattle.rules.proofs.Laws.Loops.{any-done}
-use Rattle.levels.proofs.Laws.Bits.{bit-zero, mark-more}
+use Rattle.rules.proofs.Laws.Bits.{bit-zero}
+use Rattle.levels.proofs.Laws.Bits.{mark-more}
 use Rattle.levels.proofs.marks.add_marks.Statement.{statement}
 use Rattle.levels.proofs.marks.add_marks.Tie as tie
 

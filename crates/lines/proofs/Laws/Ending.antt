@@ -1,0 +1,109 @@
+-- At the end of the input at most one text is printed: that of the last line, or that of the end.
+use Prim.Native.Nat.{ℕ, _<_}
+use mathlib.Core.Path.{_≡_, refl, sym, ap, _∙_}
+use mathlib.Core.List.{List, [], _∷_, _++_, append-nil}
+use mathlib.Core.Logic.{_⊎_, inl, inr}
+use mathlib.Core.Bool.{Bool, true, false, cond}
+use native.Mathlib.Omega.{arith}
+use lib.Dec.{leb, ltb}
+use lib.ListN.{length}
+use lib.Seq.{sets}
+use Rattle.rules.specs.declared.Built.{Built}
+use Rattle.rules.specs.declared.Built.the-variants.{Tables, Refused}
+use Rattle.rules.specs.Outcomes.{BuildEnd, build}
+use Rattle.lines.specs.declared.Frame.{Frame}
+use Rattle.lines.specs.declared.Frame.the-variants.{Sizes, Edge, Query, Faulty}
+use Rattle.lines.specs.declared.Taken.{Taken}
+use Rattle.lines.specs.Frames.{frameOf, tokensOf}
+use Rattle.lines.specs.Machine.{Stage, opening, gathering, answering, stopped, isStopped, Turn, silent, stops, buildCall, builtBy, builds, onSizes, onEdge, asked, onQuery, onFrame, badFrame, onLine, Machine, nextLine, Fed, turned, endLine, lastBy, lastLine, ended, finish}
+use Rattle.lines.specs.Standing.{stageOf, machineOf, Steps, Written}
+use Rattle.lines.proofs.Laws.Feeding.{none-of, written-as}
+
+-- a turn prints nothing, or leaves nothing to print at the end
+abbrev Quiet : Turn → Type 0
+Quiet t = (t .text ≡ []) ⊎ ((m : Machine) → ended m (t .stage) ≡ [])
+
+chosen : (b : Bool) (s : Stage) (bad : Turn) → Quiet bad → Quiet (cond b (silent s) bad)
+unfolding silent
+chosen true s bad q = inl refl
+chosen false s bad q = q
+
+built-quiet : (items labels k : ℕ) (end : BuildEnd) (b : Built) (m : Machine) → ended m (builtBy items labels k end b .stage) ≡ []
+unfolding builtBy stops ended
+built-quiet items labels k end (Tables classes pairs entries) m = refl
+built-quiet items labels k end (Refused r) m = refl
+
+sizes-quiet : (bad : Turn) → Quiet bad → (items labels k : ℕ) (s : Stage) → Quiet (onSizes bad items labels k s)
+unfolding onSizes
+sizes-quiet bad q items labels k opening = chosen (leb items 32) (gathering items labels k []) bad q
+sizes-quiet bad q items labels k (gathering _ _ _ _) = q
+sizes-quiet bad q items labels k (answering _ _ _ _) = q
+sizes-quiet bad q items labels k stopped = q
+
+edge-quiet : (bad : Turn) → Quiet bad → (source target label : ℕ) (s : Stage) → Quiet (onEdge bad source target label s)
+unfolding onEdge
+edge-quiet bad q source target label opening = q
+edge-quiet bad q source target label (gathering items labels k edges) = chosen (ltb (length edges) 3072) (gathering items labels k (edges ++ (source ∷ target ∷ label ∷ []))) bad q
+edge-quiet bad q source target label (answering _ _ _ _) = q
+edge-quiet bad q source target label stopped = q
+
+query-quiet : (bad : Turn) → Quiet bad → (tokens : List ℕ) (s : Stage) → Quiet (onQuery bad tokens s)
+unfolding onQuery asked silent builds ended
+query-quiet bad q tokens opening = q
+query-quiet bad q tokens (gathering items labels k edges) = inr (λ m. built-quiet items labels k (build (buildCall items labels k edges)) (build (buildCall items labels k edges) .result) m)
+query-quiet bad q tokens (answering items labels table entries) = inr (λ m. refl)
+query-quiet bad q tokens stopped = q
+
+frame-quiet : (bad : Turn) → Quiet bad → (line : List ℕ) (s : Stage) (f : Frame) → Quiet (onFrame bad line s f)
+unfolding onFrame
+frame-quiet bad q line s (Sizes items labels k) = sizes-quiet bad q items labels k s
+frame-quiet bad q line s (Edge source target label) = edge-quiet bad q source target label s
+frame-quiet bad q line s Query = query-quiet bad q (tokensOf line) s
+frame-quiet bad q line s Faulty = q
+
+line-quiet : (s : Stage) (number : ℕ) (line : List ℕ) → Quiet (onLine s number line)
+unfolding onLine badFrame stops ended
+line-quiet s number line = frame-quiet (badFrame number) (inr (λ m. refl)) line s (frameOf line)
+
+-- so for the last line
+abbrev Calm : Fed → Type 0
+Calm f = (f .text ≡ []) ⊎ (ended (f .machine) (f .machine .stage) ≡ [])
+
+calm : (m : Machine) (t : Turn) → Quiet t → Calm (turned m t)
+unfolding turned
+calm m t (inl e) = inl e
+calm m t (inr q) = inr (q _)
+
+last-calm : (m : Machine) (l : List ℕ) → Calm (lastBy m l)
+unfolding lastBy endLine
+last-calm m [] = inl refl
+last-calm m (b ∷ l) = calm m (onLine (m .stage) (nextLine (m .lines)) (m .part)) (line-quiet (m .stage) (nextLine (m .lines)) (m .part))
+
+stop-calm : (b : Bool) (m : Machine) (f : Fed) → Calm f → Calm (cond b (record { machine = m; text = [] }) f)
+stop-calm true m f q = inl refl
+stop-calm false m f q = q
+
+line-calm : (m : Machine) → Calm (lastLine m)
+unfolding lastLine
+line-calm m = stop-calm (isStopped (m .stage)) m (lastBy m (m .part)) (last-calm m (m .part))
+
+one-text : (f : Fed) → Calm f → 0 < length (f .text) → f .text ++ ended (f .machine) (f .machine .stage) ≡ f .text
+one-text f (inl e) h = absurd (omega (arith, h, ap length e))
+one-text f (inr e) h = ap (λ (l : List ℕ). f .text ++ l) e ∙ append-nil (f .text)
+
+module _ (m : Machine) (r : Taken) (part edges levels entries old new : List ℕ) (s : Steps (lastLine m) r part edges levels entries old new) where
+  pub finish-told : 0 < r .many → Written (finish m) (r .many) 0 old new
+  unfolding finish
+  finish-told h =
+      written-as (one-text (lastLine m) (line-calm m) (omega (arith, h, s .many)))
+      (record { size = s .many; bytes = s .text; inside = omega (arith, s .inside) })
+
+  pub finish-ended : r .many ≡ 0 → (many : ℕ) (last : List ℕ)
+      → Written (ended (machineOf (r .state) part edges levels entries) (stageOf (r .state .progress) edges levels entries)) many 0 new last
+      → Written (finish m) many 0 old last
+  unfolding finish machineOf
+  finish-ended z many last w =
+      let e : lastLine m .text ≡ [] = none-of (lastLine m .text) (sym (s .many) ∙ z) in
+      let same : new ≡ old = s .text ∙ ap (sets old 0) e in
+      written-as (ap (λ (l : List ℕ). l ++ ended (lastLine m .machine) (lastLine m .machine .stage)) e ∙ ap (λ (n : Machine). ended n (n .stage)) (sym (s .machine)))
+      (rw (sym same) w)
