@@ -3,9 +3,8 @@ use Prim.Native.Nat.{ℕ, zero, suc, _+_, _*_, _-_, _≤_, _<_}
 use mathlib.Core.Path.{_≡_, refl, sym, ap, _∙_}
 use mathlib.Core.Logic.{⊎-elim}
 use mathlib.Core.List.{List}
-use mathlib.Core.Bool.{Bool, true, false, not, _&&_, _||_}
+use mathlib.Core.Bool.{Bool, true, false, not, _&&_, _||_, or-false}
 use native.Mathlib.Nat.{eq-zero-or-pos}
-use native.Mathlib.Numerals.{add-one}
 use native.Mathlib.Omega.{arith}
 use lib.Bits.{bitOr, bitAnd, or-add-and, and-le-r}
 use lib.Dec.{eqb}
@@ -19,6 +18,7 @@ use Rattle.rules.specs.Accept.{LevelAccepted}
 use Rattle.rules.specs.Writing.{fill, rows}
 use Rattle.rules.proofs.Laws.Tests.{same}
 use Rattle.rules.proofs.Laws.Finite.{any-same}
+use Rattle.rules.proofs.Laws.Loops.{any-step}
 use Rattle.rules.proofs.Laws.Places.{place-row, place-column}
 use Rattle.rules.proofs.Laws.Accepted.{accepted-at, connected-number, number-connected}
 use Rattle.rules.proofs.Laws.Writing.{fill-ext, getD-fill-front, getD-fill-other, length-fill, rows-more, length-rows}
@@ -72,14 +72,6 @@ or-some (suc x) y =
     ap not (ne-eqb (bitOr (suc x) y) 0 (λ q. omega (arith, or-add-and (suc x) y, and-le-r (suc x) y)))
     ∙ sym (ap (λ (b : Bool). not b || not (eqb y 0)) (ne-eqb (suc x) 0 (λ q. omega arith)))
 
-any-next : (m : ℕ) (f : ℕ → Bool) → anyBelow (m + 1) f ≡ (anyBelow m f || f m)
-unfolding anyBelow
-any-next m f = rw add-one refl
-
-or-none : (a : Bool) → (a || false) ≡ a
-or-none true = refl
-or-none false = refl
-
 module _ (n : ℕ) (s t : List ℕ) (v : ℕ) where
   pub reached-start : (row : List ℕ) → Empty n row → Reached n s t v 0 row
   unfolding anyBelow
@@ -98,7 +90,7 @@ module _ (n : ℕ) (s t : List ℕ) (v : ℕ) where
     reached-same z =
         record {
           room = r .room;
-          told = λ u h. r .told u h ∙ sym (any-next m (isMid n s t v u) ∙ ap (λ (b : Bool). anyBelow m (isMid n s t v u) || b) (mid-none u m (sym ea ∙ z)) ∙ or-none (anyBelow m (isMid n s t v u)));
+          told = λ u h. r .told u h ∙ sym (any-step (isMid n s t v u) m ∙ ap (λ (b : Bool). anyBelow m (isMid n s t v u) || b) (mid-none u m (sym ea ∙ z)) ∙ or-false (anyBelow m (isMid n s t v u)));
         }
 
     pub reached-more : (a ≡ 0 → ⊥) → (row′ : List ℕ) → row′ ≡ fill row 0 n (λ u. bitOr (getD row u 0) (numberAt n t m u)) → Reached n s t v (m + 1) row′
@@ -109,7 +101,7 @@ module _ (n : ℕ) (s t : List ℕ) (v : ℕ) where
               ap (λ (z : ℕ). not (eqb z 0)) (ap (λ (z : List ℕ). getD z u 0) e ∙ getD-fill-front row n (λ i. bitOr (getD row i 0) (numberAt n t m i)) u h (r .room))
               ∙ or-some (getD row u 0) (numberAt n t m u)
               ∙ ap (λ (b : Bool). b || not (eqb (numberAt n t m u) 0)) (r .told u h)
-              ∙ sym (any-next m (isMid n s t v u) ∙ ap (λ (b : Bool). anyBelow m (isMid n s t v u) || b) (mid-some u m (λ z. k (ea ∙ z))));
+              ∙ sym (any-step (isMid n s t v u) m ∙ ap (λ (b : Bool). anyBelow m (isMid n s t v u) || b) (mid-some u m (λ z. k (ea ∙ z))));
         }
 
 -- what the rows tell

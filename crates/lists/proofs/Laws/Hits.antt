@@ -1,7 +1,6 @@
 -- Counting the entries of a row without making them.
 use Prim.Native.Nat.{ℕ, zero, suc, _+_, _*_, _/_, _%_, _^_, _≤_, _<_}
 use mathlib.Core.Path.{_≡_, refl, sym, ap, ap₂, _∙_}
-use mathlib.Core.Logic.{⊎-elim}
 use mathlib.Core.List.{List, [], _∷_, _++_}
 use mathlib.Core.Bool.{Bool, true, false, cond, not, _&&_}
 use native.Mathlib.Nat.{mod-lt}
@@ -12,7 +11,8 @@ use lib.Dec.{eqb}
 use lib.ListN.{length, getD, length-append}
 use Rattle.rules.specs.Finite.{countBelow}
 use Rattle.rules.specs.Accept.{difference}
-use Rattle.rules.proofs.Laws.Finite.{below-cases}
+use Rattle.rules.proofs.Laws.Tests.{not-true-of}
+use Rattle.rules.proofs.Laws.Counting.{count-lt}
 use Rattle.rules.proofs.Laws.Places.{place-lt}
 use Rattle.lists.specs.Relations.{bitAt, Slot}
 use Rattle.lists.specs.Entries.{Went, Firsts, isFirst, isHit, Blank, entriesRow}
@@ -34,10 +34,6 @@ unfolding bitAt
 hit-some first l x k = rw (ne-eqb first 0 k) (digit (x / (2 ^ l) % 2) (mod-lt (x / (2 ^ l)) (omega arith)))
 
 -- one position more
-pub count-start : (f : ℕ → Bool) → 0 ≡ countBelow 0 f
-unfolding countBelow
-count-start f = refl
-
 one-le : (b : Bool) → cond {A = ℕ} b 1 0 ≤ 1
 one-le true = omega arith
 one-le false = omega arith
@@ -57,21 +53,10 @@ count-le zero f = omega arith
 count-le (suc n) f = omega (arith, count-le n f, one-le (f n))
 
 -- sixteen places without a hit
-count-none : (n : ℕ) (f : ℕ → Bool) → countBelow n f ≡ 0 → (j : ℕ) → j < n → f j ≡ false
-unfolding countBelow
-count-none zero f e j h = absurd (omega arith)
-count-none (suc n) f e j h =
-    ⊎-elim
-    (λ (q : j ≡ n). rw q (off (f n) (omega arith)))
-    (λ (l : j < n). count-none n f (omega arith) j l)
-    (below-cases h)
-  where
-    off : (b : Bool) → cond {A = ℕ} b 1 0 ≡ 0 → b ≡ false
-    off true e = absurd (omega arith)
-    off false e = refl
-
 pub blank-is : (w : List ℕ) (from firsts l u n : ℕ) {k : ℕ} → u + 16 ≤ n → k ≡ countBelow 16 (isHit w from firsts l) → k ≡ 0 → Blank w from firsts l u n
-blank-is w from firsts l u n h e z = record { inside = h; none = count-none 16 (isHit w from firsts l) (sym e ∙ z) }
+blank-is w from firsts l u n {k} h e z =
+    let f = isHit w from firsts l in
+    record { inside = h; none = λ j hj. not-true-of (f j) (λ t. omega (arith, e, z, count-lt f j 16 hj t)) }
 
 -- the hits of a row are its entries
 told : (b : Bool) → not (eqb (cond {A = ℕ} b 1 0) 0) ≡ b

@@ -1,3 +1,4 @@
+-- Only a yes is promised: then x stands at place k-1 of the list.
 use Prim.Native.Nat.{ℕ}
 use native.Mathlib.Omega.{arith}
 use mathlib.Core.Path.{_≡_}

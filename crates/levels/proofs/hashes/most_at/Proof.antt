@@ -1,3 +1,4 @@
+-- The two ways of the test: 0 by definition where the level has no split, else what `split_most` answers.
 use native.Mathlib.Omega.{arith}
 use borrow.Author.Needs.{needs}
 use Rattle.levels.proofs.Laws.Signature.{most-none, most-some}

@@ -1,3 +1,4 @@
+-- Level 1 is one step by definition (`row-first`); above, connected within i is a midpoint at i-1 and a step (`row-far`).
 use native.Mathlib.Omega.{arith}
 use borrow.Author.Needs.{needs}
 use Rattle.levels.proofs.Laws.Tables.{base-next}

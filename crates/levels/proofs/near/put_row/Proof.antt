@@ -1,3 +1,4 @@
+-- The invariant: the first u bytes from `at` on are the signs of the row, the rest of the area is as before.
 use Prim.Native.Nat.{ℕ, _+_, _*_, _-_, _≤_, _<_}
 use mathlib.Core.Path.{_≡_, refl}
 use native.Mathlib.Omega.{arith}

@@ -1,3 +1,4 @@
+-- The two ways of the test: 0 for 0, and 1 for all else.
 use Rattle.levels.proofs.Laws.Rows.{sign-none, sign-some}
 use Rattle.levels.proofs.near.sign.Statement.{statement}
 use Rattle.levels.proofs.near.sign.Tie as tie

@@ -1,3 +1,4 @@
+-- The two ways of the test that `next_to` makes, as 1 and 0.
 use borrow.Author.Needs.{needs}
 use Rattle.levels.proofs.Laws.Rows.{one-yes, one-no}
 use Rattle.levels.proofs.near.step_bit.Statement.{statement}

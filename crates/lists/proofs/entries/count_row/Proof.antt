@@ -1,9 +1,11 @@
+-- The invariant: `some` counts the hits among the first u places and is at most u, so that it fits a byte.
 use Prim.Native.Nat.{_-_, _≤_}
-use mathlib.Core.Path.{_≡_}
+use mathlib.Core.Path.{_≡_, sym}
 use native.Mathlib.Omega.{arith}
 use Rattle.rules.specs.Finite.{countBelow}
 use Rattle.lists.specs.Entries.{isHit}
-use Rattle.lists.proofs.Laws.Hits.{count-start, count-more}
+use Rattle.rules.proofs.Laws.Counting.{count-none}
+use Rattle.lists.proofs.Laws.Hits.{count-more}
 use Rattle.lists.proofs.entries.count_row.Statement.{statement}
 use Rattle.lists.proofs.entries.count_row.Tie as tie
 
@@ -14,7 +16,7 @@ abbrev μ-loop : tie.MeasureT-loop
 μ-loop area from firsts l n some₀ u₀ some u = n - u
 
 loop-holds : tie.Need-loop-holds Inv-loop μ-loop
-loop-holds c = (omega arith, count-start _, omega arith)
+loop-holds c = (omega arith, sym (count-none _), omega arith)
 
 add-hit : tie.Need-add-hit Inv-loop μ-loop
 add-hit c = omega arith

@@ -1,3 +1,4 @@
+-- Three ways: no hit in the row; nothing lent, so the count of hits is all; or the entries one by one.
 use Prim.Native.Nat.{_+_, _*_, _≤_}
 use native.Mathlib.Omega.{arith}
 use borrow.Author.Needs.{needs}
