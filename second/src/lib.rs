@@ -11,6 +11,7 @@ pub mod check;
 pub mod compare;
 pub mod generate;
 pub mod graph;
+pub mod kinds;
 pub mod levels;
 pub mod lists;
 pub mod outcome;

@@ -2,12 +2,15 @@
 
 use second::case::Case;
 use second::generate::{cases, inputs};
+use second::kinds::kinds;
 use second::{compare, program};
+use std::collections::BTreeMap;
 use std::io::{self, BufRead, BufWriter, Read, Write};
 use std::process::ExitCode;
 
 const USAGE: &str = "usage:
   second cases SEED COUNT                       print library cases
+  second kinds SEED COUNT                       count what these cases try
   second expect                                 cases on standard input, expected lines out
   second inputs SEED COUNT DIR                  write inputs of `answer` as files of DIR
   second answer                                 the program itself
@@ -31,6 +34,10 @@ fn run(words: &[String]) -> Result<bool, String> {
     let words: Vec<&str> = words.iter().map(|word| word.as_str()).collect();
     match words[..] {
         ["cases", seed, count] => print_cases(number(seed)?, number(count)?).map(|_| true),
+        ["kinds", seed, count] => {
+            print_kinds(number(seed)?, number(count)?);
+            Ok(true)
+        }
         ["expect"] => expect().map(|_| true),
         ["inputs", seed, count, directory] => {
             write_inputs(number(seed)?, number(count)?, directory).map(|_| true)
@@ -57,6 +64,24 @@ fn print_cases(seed: u64, count: u64) -> Result<(), String> {
         writeln!(output, "{line}").map_err(|error| error.to_string())?;
     }
     output.flush().map_err(|error| error.to_string())
+}
+
+/// A line for each kind: how many cases have it, and its name.
+fn print_kinds(seed: u64, count: u64) {
+    let mut counts: BTreeMap<String, u64> = BTreeMap::new();
+    for index in 0..count {
+        let case = cases::case(seed, index);
+        let number = case.run().0.number;
+        *counts
+            .entry(format!("{} returns {number:2}", case.entry))
+            .or_default() += 1;
+        for kind in kinds(&case) {
+            *counts.entry(kind).or_default() += 1;
+        }
+    }
+    for (kind, count) in counts {
+        println!("{count:6} {kind}");
+    }
 }
 
 fn expect() -> Result<(), String> {

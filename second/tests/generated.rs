@@ -3,6 +3,7 @@
 
 use second::case::{shape, Case};
 use second::generate::{cases, inputs};
+use second::kinds::kinds;
 use second::program::answer;
 use std::collections::BTreeSet;
 
@@ -86,6 +87,58 @@ fn every_refusal_of_every_entry_occurs() {
         all.extend(numbers.iter().map(|number| (entry, *number)));
     }
     assert_eq!(met, all);
+}
+
+/// What each entry has to meet: the limits of its sizes, each buffer too short, exact, longer and
+/// filled beforehand, and tables as no builder leaves them.
+#[test]
+fn every_kind_of_case_occurs() {
+    let mut met = BTreeSet::new();
+    for index in 0..20_000 {
+        met.extend(kinds(&cases::case(1, index)));
+    }
+    let numbers: [(&str, &str, &[u32]); 6] = [
+        ("BCDSK", "items", &[0, 1, 127, 128, 129]),
+        ("BCDSK", "labels", &[0, 1, 8, 9]),
+        ("BCK", "k", &[0, 1, 4, 5]),
+        ("BCD", "edges", &[4096, 4097]),
+        ("DSK", "tokens", &[64, 65]),
+        ("DSK", "operands", &[8, 9]),
+    ];
+    for (entries, name, values) in numbers {
+        for value in values {
+            expect_kind(&met, entries, &format!("{name} {value}"));
+        }
+    }
+    let buffers = [
+        ("BC", "levels"),
+        ("B", "starts"),
+        ("B", "order"),
+        ("B", "entries"),
+        ("SK", "table"),
+        ("DSK", "answers"),
+        ("BCDSK", "area"),
+    ];
+    for (entries, buffer) in buffers {
+        for room in ["short", "exact", "longer", "filled"] {
+            expect_kind(&met, entries, &format!("{buffer} {room}"));
+        }
+    }
+    for levels in ["changed", "merged", "split", "renumbered"] {
+        expect_kind(&met, "C", &format!("levels {levels}"));
+    }
+    expect_kind(&met, "C", "as built");
+    expect_kind(&met, "C", "finer and accepted");
+    expect_kind(&met, "CSK", "class above V²");
+    expect_kind(&met, "CSKL", "entries odd");
+    expect_kind(&met, "CSKL", "entries unsorted");
+}
+
+fn expect_kind(met: &BTreeSet<String>, entries: &str, kind: &str) {
+    for entry in entries.chars() {
+        let named = format!("{entry} {kind}");
+        assert!(met.contains(&named), "no case of {named}");
+    }
 }
 
 #[test]

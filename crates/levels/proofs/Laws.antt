@@ -1,9 +1,12 @@
+-- The laws of the crate: marks, agreement, midpoints, the chains and numbering of a level, its check, and all levels, built or checked.
 pub mod Bits
 pub mod Marks
 pub mod Tables
 pub mod Areas
 pub mod Agreement
+pub mod Halves
 pub mod Reach
+pub mod Rows
 pub mod Numbers
 pub mod Level
 pub mod Right

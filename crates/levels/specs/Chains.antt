@@ -8,6 +8,7 @@ use lib.ListN.{getD, take, set}
 use Rattle.rules.specs.Finite.{anyBelow}
 use Rattle.rules.specs.Rule.{rule}
 use Rattle.rules.specs.Levels.{numberAt, levelOf, matches}
+use Rattle.levels.specs.Halves.{pairOf}
 
 -- two bytes as one number, the low byte first
 unfoldable pub word : List ℕ → ℕ → ℕ
@@ -54,26 +55,63 @@ pub record Answer (isIn : ℕ → Bool) (alike : ℕ → ℕ → Bool) (p q : �
 unfoldable pub keyOf : ℕ → List ℕ → ℕ → ℕ
 keyOf n area p = getD (take (n * n) area) p 0 + 256 * getD (take (n * n) area) (p % n * n + p / n) 0
 
--- a hash of two numbers, turned by k: any function would serve
-unfoldable pub hashOf : ℕ → ℕ → ℕ → ℕ
-hashOf k a b = (a * 2654435761 % 4294967296 + b * 2246822519 % 4294967296 + k) % 4294967296
+-- a hash of a midpoint's number: any function would serve
+unfoldable pub mixOf : ℕ → ℕ
+mixOf x = (x / 4294967296 * 2654435761 % 4294967296 + x % 4294967296 * 2246822519 % 4294967296) % 4294967296
 
--- of a midpoint the hash of its two numbers, else 0
+-- the hash turned by k
+unfoldable pub hashOf : ℕ → ℕ → ℕ
+hashOf k x = (mixOf x + k) % 4294967296
+
+-- of a midpoint the hash of its number, else 0
 unfoldable pub midHash : ℕ → ℕ → List ℕ → List ℕ → ℕ → ℕ → ℕ → ℕ
-midHash k n s t v u m = cond (eqb (numberAt n s v m) 0 || eqb (numberAt n t m u) 0) 0 (hashOf k (numberAt n s v m) (numberAt n t m u))
+midHash k n s t v u m = cond (eqb (numberAt n s v m) 0 || eqb (numberAt n t m u) 0) 0 (hashOf k (pairOf (numberAt n s v m) (numberAt n t m u)))
 
 -- the largest of f 0, f 1, .. below the bound
 unfoldable pub mostBelow : ℕ → (ℕ → ℕ) → ℕ
 mostBelow zero f = 0
 mostBelow (suc n) f = max (mostBelow n f) (f n)
 
--- the largest hash of the midpoints of the pair at p, in the first split of level i
-unfoldable pub splitMost : ℕ → ℕ → ℕ → List ℕ → ℕ → ℕ
-splitMost k n i levels p = mostBelow n (midHash k n (levelOf n levels (rule .first i 0)) (levelOf n levels (rule .second i 0)) (p / n) (p % n))
+-- four numbers below 2^32
+pub record Small (a b c d : ℕ) : Type 0 where
+  pub none : a < 4294967296
+  pub quarter : b < 4294967296
+  pub half : c < 4294967296
+  pub most : d < 4294967296
 
--- by two turns of the hash; 0 where level i has no split
+-- four numbers, each the larger of what it was and a turn of the hash of x
+pub record Raised (x a b c d a′ b′ c′ d′ : ℕ) : Type 0 where
+  pub none : a′ ≡ max a (hashOf 0 x)
+  pub quarter : b′ ≡ max b (hashOf 1073741824 x)
+  pub half : c′ ≡ max c (hashOf 2147483648 x)
+  pub most : d′ ≡ max d (hashOf 3221225472 x)
+
+-- the hash, turned by k, of place j of a list
+unfoldable pub hashAt : List ℕ → ℕ → ℕ → ℕ
+hashAt list k j = hashOf k (getD list j 0)
+
+-- the largest hashes of the first k of the list, by four turns
+pub record Mosts (list : List ℕ) (k a b c d : ℕ) : Type 0 where
+  pub none : a ≡ mostBelow k (hashAt list 0)
+  pub quarter : b ≡ mostBelow k (hashAt list 1073741824)
+  pub half : c ≡ mostBelow k (hashAt list 2147483648)
+  pub most : d ≡ mostBelow k (hashAt list 3221225472)
+
+-- the largest hash, turned by k, of the midpoints of (v,u)
+unfoldable pub pairMost : ℕ → List ℕ → List ℕ → ℕ → ℕ → ℕ → ℕ
+pairMost n s t v u k = mostBelow n (midHash k n s t v u)
+
+-- four turns together
+unfoldable pub fourOf : (ℕ → ℕ) → ℕ
+fourOf f = f 0 + f 1073741824 + f 2147483648 + f 3221225472
+
+-- the largest hashes of the midpoints of the pair at p, in the first split of level i, by four turns together
+unfoldable pub splitMost : ℕ → ℕ → List ℕ → ℕ → ℕ
+splitMost n i levels p = fourOf (pairMost n (levelOf n levels (rule .first i 0)) (levelOf n levels (rule .second i 0)) (p / n) (p % n))
+
+-- 0 where level i has no split
 unfoldable pub mostOf : ℕ → ℕ → List ℕ → ℕ → ℕ
-mostOf n i levels p = cond (eqb (rule .many i) 0) 0 (splitMost 0 n i levels p + splitMost 2147483648 n i levels p)
+mostOf n i levels p = cond (eqb (rule .many i) 0) 0 (splitMost n i levels p)
 
 unfoldable pub bucketOf : ℕ → ℕ → List ℕ → List ℕ → ℕ → ℕ
 bucketOf n i levels area p = (keyOf n area p + mostOf n i levels p) % (n * n)

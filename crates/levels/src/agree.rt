@@ -3,9 +3,10 @@ ghost use mathlib.Core.Path.{_≡_};
 ghost use Prim.Native.Nat.{ℕ, _*_, _<_, _≤_};
 ghost use Rattle.rules.specs.Graph.{Graph};
 ghost use Rattle.rules.specs.Rule.{rule};
-ghost use Rattle.rules.specs.Levels.{numberAt, levelOf, sameEnds, twins, agree};
+ghost use Rattle.rules.specs.Levels.{numberAt, levelOf, sameEnds, agree};
 ghost use Rattle.levels.specs.Marks.{markedGraph};
 ghost use Rattle.levels.specs.Needs.{Pair, Marks, Stands};
+use super::halves::same_halves;
 use super::marks::same_steps;
 
 // The number of the pair (v,u) at a level.
@@ -14,39 +15,6 @@ pub fn number_at(n: usize, levels: &[u32], level: usize, v: usize, u: usize) -> 
     ensures { λ r. ⌜ r ≡ numberAt n (levelOf n (now (levels .entry)) level) v u ⌝ }
 {
     levels[(level - 1) * (n * n) + (v * n + u)]
-}
-
-// Each midpoint of (v,u) has a twin among the midpoints of (x,y): first halves by one level, second halves by another.
-pub fn twins(
-    n: usize,
-    levels: &[u32],
-    first: usize,
-    second: usize,
-    v: usize,
-    u: usize,
-    x: usize,
-    y: usize,
-) -> bool
-    requires { ⌜ (Stands n (now levels) first) × (Stands n (now levels) second) × (Pair n v u) × (Pair n x y) ⌝ }
-    ensures { λ r. ⌜ r ≡ twins n (levelOf n (now (levels .entry)) first) (levelOf n (now (levels .entry)) second) v u x y ⌝ }
-{
-    let mut all = true;
-    'midpoints: for m in 0..n {
-        let a = number_at(n, levels, first, v, m);
-        let b = number_at(n, levels, second, m, u);
-        if a != 0 && b != 0 {
-            'candidates: for w in 0..n {
-                if number_at(n, levels, first, x, w) == a
-                    && number_at(n, levels, second, w, y) == b
-                {
-                    continue 'midpoints;
-                }
-            }
-            all = false;
-            break 'midpoints;
-        }
-    }
-    all
 }
 
 // v is u exactly when x is y.
@@ -96,7 +64,7 @@ pub fn agree(
     x: usize,
     y: usize,
 ) -> bool
-    requires { ⌜ (Stands n (now levels) i) × (Marks n (now area)) × (Pair n v u) × (Pair n x y) ⌝ }
+    requires { ⌜ (n ≤ 128) × (Stands n (now levels) i) × (Marks n (now area)) × (Pair n v u) × (Pair n x y) ⌝ }
     ensures { λ r. ⌜ r ≡ agree rule (markedGraph n (now (area .entry))) i (levelOf n (now (levels .entry))) v u x y ⌝ }
 {
     if !same_ends(v, u, x, y) {
@@ -110,10 +78,7 @@ pub fn agree(
     while c < count {
         let a = first_level(i, c);
         let b = second_level(i, c);
-        if !twins(n, levels, a, b, v, u, x, y) {
-            return false;
-        }
-        if !twins(n, levels, a, b, x, y, v, u) {
+        if !same_halves(n, levels, a, b, v, u, x, y) {
             return false;
         }
         c += 1;

@@ -3,6 +3,8 @@ pub mod agree;
 pub mod all;
 mod chains;
 pub mod check;
+mod halves;
+mod hashes;
 pub mod marks;
 pub mod near;
 pub mod number;

@@ -3,7 +3,7 @@ pub mod asking; // a query, answered from the stored tables
 pub mod feeding; // the bytes up to the next text, and the end of the input
 pub mod frames; // what a line says
 pub mod stages; // what a line that is no query does
-pub mod steps; // a byte, and the end of the input
+pub mod steps; // a byte, and the line that it ends
 pub mod texts; // the lines of the output
 pub mod turns; // what any line does
 

@@ -1,4 +1,4 @@
-// The steps of the machine: one byte, the bytes up to the next text, and the end of the input.
+// The steps of the machine: a byte, and the line that it ends.
 ghost use mathlib.Core.Path.{_≡_};
 ghost use mathlib.Core.List.{List};
 ghost use Prim.Native.Nat.{ℕ, _≤_};

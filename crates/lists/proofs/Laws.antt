@@ -9,6 +9,7 @@ pub mod Difference
 pub mod Meeting
 pub mod Went
 pub mod Emitting
+pub mod Hits
 pub mod Sequences
 pub mod Walking
 pub mod Leaves

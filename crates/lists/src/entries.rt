@@ -4,12 +4,14 @@ use super::relations::has_bit;
 use super::relations::labels_in;
 ghost use mathlib.Core.Path.{_≡_};
 ghost use mathlib.Core.List.{List, [], _∷_, _++_};
-ghost use mathlib.Core.Bool.{Bool, cond};
-ghost use Prim.Native.Nat.{ℕ, _+_, _*_, _≤_, _<_};
+ghost use mathlib.Core.Bool.{Bool, true, cond, not, _&&_};
+ghost use Prim.Native.Nat.{ℕ, _+_, _*_, _-_, _≤_, _<_};
+ghost use lib.Dec.{eqb};
 ghost use lib.ListN.{length, getD};
+ghost use Rattle.rules.specs.Finite.{countBelow};
 ghost use Rattle.rules.specs.Accept.{difference};
-ghost use Rattle.lists.specs.Relations.{Frame, Slot};
-ghost use Rattle.lists.specs.Entries.{Went, Firsts, Emitting, entriesRow, entriesRows};
+ghost use Rattle.lists.specs.Relations.{bitAt, Frame, Slot};
+ghost use Rattle.lists.specs.Entries.{Went, Firsts, Emitting, isHit, Blank, entriesRow, entriesRows};
 
 // How far the entries have come: how many there are, and the first number at which they differ from the stored list.
 pub struct Progress {
@@ -78,8 +80,47 @@ pub fn mark_firsts(table: &[u32], n: usize, area: &mut [u8])
     }
 }
 
-// The entries of row v of the relation that bit l of the block at `from` holds.
-fn emit_row(
+// 1 where bit l of x is set and the position is a first one, else 0.
+fn hit(x: u8, first: u8, l: usize) -> u8
+    requires { ⌜ l < 8 ⌝ }
+    ensures { λ r. ⌜ r ≡ cond (not (eqb first 0) && bitAt l x) 1 0 ⌝ }
+{
+    if first == 0 {
+        return 0;
+    }
+    (x >> l) % 2
+}
+
+// How many of n positions are first ones and have bit l.
+fn count_row(area: &[u8], from: usize, firsts: usize, l: usize, n: usize) -> usize
+    requires { ⌜ (l < 8) × (n ≤ 128) × (from + n ≤ length (now area)) × (firsts + n ≤ length (now area)) ⌝ }
+    ensures { λ r. ⌜ r ≡ countBelow n (isHit (now (area .entry)) from firsts l) ⌝ }
+{
+    let mut some: u8 = 0;
+    let mut u: usize = 0;
+    while u < n {
+        some = some + hit(area[from + u], area[firsts + u], l);
+        u += 1;
+    }
+    some as usize
+}
+
+// Sixteen positions from u on lie in a row of n, and none of them is a first one with bit l.
+fn is_blank(area: &[u8], from: usize, firsts: usize, l: usize, u: usize, n: usize) -> bool
+    requires { ⌜ (l < 8) × (u ≤ n) × (n ≤ 128) × (from + (n - u) ≤ length (now area)) × (firsts + (n - u) ≤ length (now area)) ⌝ }
+    ensures { λ r. ⌜ (r ≡ true → Blank (now (area .entry)) from firsts l u n) ⌝ }
+{
+    if u % 16 != 0 {
+        return false;
+    }
+    if n < u + 16 {
+        return false;
+    }
+    count_row(area, from, firsts, l, 16) == 0
+}
+
+// The entries of row v of the relation that bit l of the block at `from` holds, one by one.
+fn put_row(
     table: &[u32],
     n: usize,
     v: usize,
@@ -100,6 +141,10 @@ fn emit_row(
     let mut u: usize = 0;
     while u < n {
         let p = row + u;
+        if is_blank(area, from + p, firsts + p, l, u, n) {
+            u += 16;
+            continue;
+        }
         if area[firsts + p] == 0 {
             u += 1;
             continue;
@@ -112,6 +157,36 @@ fn emit_row(
         u += 1;
     }
     done
+}
+
+// The entries of row v of the relation that bit l of the block at `from` holds. They are only counted where there is nothing to write to and nothing to compare with.
+fn emit_row(
+    table: &[u32],
+    n: usize,
+    v: usize,
+    code: u32,
+    from: usize,
+    l: usize,
+    area: &[u8],
+    stored: &[u32],
+    out: &mut [u32],
+    past: Progress,
+) -> Progress
+    requires { ⌜ (v < n) × (Emitting (now table) n l from (past .count) n (now area)) ⌝ }
+    ensures { λ r. ⌜ (r .count ≤ past .count + n) × ((J : ℕ → ℕ → Bool) → Slot n from l (now (area .entry)) J → Firsts n (now (table .entry)) (now (area .entry)) → Went (past .count) (past .met) (r .count) (r .met) (entriesRow n (now (table .entry)) J code v n) (now (stored .entry)) (now (out .entry)) (now (out .exit))) ⌝ }
+{
+    let row = v * n;
+    let some = count_row(area, from + row, 8 * (n * n) + row, l, n);
+    if some == 0 {
+        return past;
+    }
+    if stored.len() + out.len() == 0 {
+        return Progress {
+            count: past.count + some,
+            met: past.met,
+        };
+    }
+    put_row(table, n, v, code, from, l, area, stored, out, past)
 }
 
 // The entries of the relation that bit l of the block at `from` holds. Rows without that bit are passed over.

@@ -16,9 +16,9 @@ const FEW_ENTRIES: usize = 3_000;
 pub fn case(seed: u64, index: u64) -> Case {
     let random = &mut Random::new(seed, index);
     match random.below(1600) {
-        0..=3 => large(random),
-        4..=6 => oversize(random),
-        7..=12 => {
+        0..=23 => large(random),
+        24..=29 => oversize(random),
+        30..=39 => {
             let plan = graphs::many_edges(random);
             let entry = random.pick(&['B', 'D', 'D', 'C']);
             faulty(random, entry, plan)
@@ -35,9 +35,9 @@ pub fn case(seed: u64, index: u64) -> Case {
 /// A case of 127 or 128 items.
 fn large(random: &mut Random) -> Case {
     let plan = graphs::large(random);
-    let entries = ['B', 'C', 'D', 'D', 'D', 'S', 'K', 'P', 'L'];
+    let entries = ['B', 'B', 'C', 'C', 'D', 'D', 'S', 'K', 'P', 'L'];
     let entry = random.pick(&entries);
-    good(random, entry, plan)
+    faulty(random, entry, plan)
 }
 
 /// One item too many, and room for it: nothing but V itself is wrong.

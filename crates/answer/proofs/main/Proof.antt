@@ -34,7 +34,8 @@ slice-aggregate-run-9 : tie.Need-slice-aggregate-run-9
 slice-aggregate-run-9 c = search needs
 
 run-requires : tie.Need-run-requires
-run-requires c κs = search needs
+run-requires c κs =
+    (search needs, record { rooms = record { edges-lent = search needs; levels-lent = search needs; starts-lent = search needs; order-lent = search needs; entries-lent = search needs; area-lent = search needs; out-lent = search needs }; answers-lent = search needs })
 
 array-share-prefix-out : tie.Need-array-share-prefix-out
 array-share-prefix-out c = let r = c .before .before .before .before .before .before .before .before .before .run in omega (arith, r .ensures .inside, r .kept .1 .1 .1 .1 .1 .1 .1 .1 .0)

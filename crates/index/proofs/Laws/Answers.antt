@@ -1,7 +1,7 @@
 -- What is known of an answer's call that is refused nothing before the work, and how it ends.
-use Prim.Native.Nat.{ℕ, _*_, _/_, _%_, _≤_}
-use mathlib.Core.Path.{_≡_, sym, ap, _∙_}
-use mathlib.Core.Logic.{inl, inr}
+use Prim.Native.Nat.{ℕ, _*_, _/_, _%_, _≤_, _<_}
+use mathlib.Core.Path.{_≡_, refl, sym, ap, _∙_}
+use mathlib.Core.Logic.{inr}
 use mathlib.Core.List.{List, map}
 use mathlib.Core.Bool.{Bool, true, false, false≢true, _&&_}
 use native.Mathlib.Omega.{arith}
@@ -22,16 +22,15 @@ use Rattle.rules.proofs.Laws.Verdict.{or-else-good}
 use Rattle.rules.proofs.Laws.Links.{SizesFit, sizes-fit, EdgesIn, edges-in, room-fits}
 use Rattle.rules.proofs.Laws.Finite.{list-same}
 use Rattle.rules.proofs.Laws.Places.{row-lt, column-lt, square-le}
-use Rattle.area.specs.Packed.{pairIn, Slot, Only}
-use Rattle.area.proofs.Laws.Only.{holds-kept}
+use Rattle.area.specs.Packed.{pairIn, Slot}
 use Rattle.area.proofs.Laws.Sets.{list-holds}
-use Rattle.query.specs.Evaluate.{sourceStep, Source, Evaluable, Evaluated}
+use Rattle.query.specs.Sets.{sourceStep, Source}
+use Rattle.query.specs.Evaluate.{Evaluable, Evaluated}
 use Rattle.query.proofs.Laws.Places.{slot-short}
-use Rattle.index.specs.Calls.{ended}
-use Rattle.index.specs.Telling.{Told}
-use Rattle.index.specs.Classes.{notedLast, Notable, Noted, toldAt, classesUpTo}
-use Rattle.index.proofs.Laws.Firsts.{last-only, firsts-noted}
-use Rattle.index.proofs.Laws.Telling.{ends-told, ends-refused}
+use Rattle.rules.specs.Calls.{ended}
+use Rattle.telling.specs.Telling.{Told}
+use Rattle.telling.specs.Classes.{toldAt, LeadReady, Led, classesIn}
+use Rattle.telling.proofs.Laws.Telling.{ends-told, ends-refused}
 
 -- what every answer asks before its work
 pub record Ready (items labels : ℕ) (tokens area : List ℕ) : Type 0 where
@@ -151,24 +150,18 @@ class-passed c e =
       table = room-fits (c .table) (c .items * c .items) (a .1);
     }
 
--- first positions noted behind slot 0 leave what was evaluated
-module _ {n : ℕ} {g : ℕ → ℕ → Bool} {area w : List ℕ} (t r : List ℕ) (few : n ≤ 128) (wide : 9 * (n * n) ≤ length area) (fits : n * n ≤ length t)
-    (e : Evaluated n g area w) where
-  pub notable : Notable w (n * n) t
-  notable = record { few = square-le few; wide = omega (arith, e .size); fits = fits }
+-- the set that was evaluated, and then led
+module _ {n : ℕ} {g : ℕ → ℕ → Bool} {area w : List ℕ} (t : List ℕ) (few : n ≤ 128) (wide : 9 * (n * n) ≤ length area) (e : Evaluated n g area w) where
+  pub lead-ready : n * n ≤ length t → LeadReady n w t
+  lead-ready fits =
+      record {
+        few = few;
+        notable = record { few = square-le few; wide = omega (arith, e .size); fits = fits };
+        holds = record { pairs = λ v u hv hu. refl; padding = e .holds .padding };
+      }
 
-  module _ (q : r ≡ notedLast w (n * n) t (n * n)) where
-    pub noted-firsts : Noted r (n * n) t
-    noted-firsts = rw q (firsts-noted w (n * n) t notable)
-
-    pub evaluated-still : Evaluated n g area r
-    evaluated-still =
-        let o : Only (2 * (n * n)) (7 * (n * n)) w r = rw q (last-only w (n * n) t (n * n) (omega arith)) in
-        record {
-          size = o .size ∙ e .size;
-          holds = holds-kept n (2 * (n * n)) (7 * (n * n)) 0 w r o (inl (omega (arith, slot-short n))) (e .holds);
-          beyond = λ j h. o .outside j (inr (omega arith)) ∙ e .beyond j h;
-        }
+  pub led-size : (r : List ℕ) → Led n t w r → length r ≡ length area
+  led-size r l = l .only .size ∙ e .size
 
 module _ (c : ClassCall) where
   pub class-refused : (f : Refusal) → classRefusal c ≡ refuse f → Ends (class c) (ended (Refused f) (c .answers) (c .area))
@@ -177,18 +170,23 @@ module _ (c : ClassCall) where
 
   module _ (edges w : List ℕ)
       (e : Evaluated (c .items) (meetsBy (c .items) (sourceStep true (c .items) (c .labels) edges (c .table) (c .entries)) (queryOf (readTokens (c .labels) (c .tokens)))) (c .area) w) where
-    class-numbers : classesUpTo (c .items) w (c .table) (c .items * c .items) ≡ classList c
-    unfolding classesUpTo classList classAnswer sourceStep toldAt pairIn
-    class-numbers =
+    met : (p : ℕ) → p < c .items * c .items
+        → pairIn (c .items) w 0 p ≡ meetsBy (c .items) (storedStep (c .items) (c .table) (c .entries)) (queryOf (readTokens (c .labels) (c .tokens))) (p / c .items) (p % c .items)
+    unfolding pairIn sourceStep
+    met p h = e .holds .pairs (p / c .items) (p % c .items) (row-lt (c .items) p h) (column-lt (c .items) p h)
+
+    class-numbers : (x : List ℕ) → Led (c .items) (c .table) w x → classesIn (c .items) x (c .table) ≡ classList c
+    unfolding classesIn classList classAnswer toldAt
+    class-numbers x l =
         let n = c .items in
         let q = queryOf (readTokens (c .labels) (c .tokens)) in
         ap (map (λ p. getD (c .table) p 0))
-        (list-same (n * n) (toldAt n w (c .table)) (λ p. leader (n * n) (c .table) p && meetsBy n (storedStep n (c .table) (c .entries)) q (p / n) (p % n))
-        (λ p h. ap (λ (b : Bool). leader (n * n) (c .table) p && b) (e .holds .pairs (p / n) (p % n) (row-lt n p h) (column-lt n p h))))
+        (list-same (n * n) (pairIn n x 0) (λ p. leader (n * n) (c .table) p && meetsBy n (storedStep n (c .table) (c .entries)) q (p / n) (p % n))
+        (λ p h. l .pairs p h ∙ ap (λ (b : Bool). leader (n * n) (c .table) p && b) (met p h)))
 
-    pub class-told : (z written : List ℕ) (r : Answered) → classRefusal c ≡ good → Told (classesUpTo (c .items) w (c .table) (c .items * c .items)) (c .answers) r written
-        → z ≡ fill w 0 (9 * (c .items * c .items)) (λ _. 0) → Ends (class c) (ended r written z)
+    pub class-told : (x z written : List ℕ) (r : Answered) → classRefusal c ≡ good → Led (c .items) (c .table) w x → Told (classesIn (c .items) x (c .table)) (c .answers) r written
+        → z ≡ fill x 0 (9 * (c .items * c .items)) (λ _. 0) → Ends (class c) (ended r written z)
     unfolding class
-    class-told z written r g told cleared =
-        ends-told (c .items) (c .area) w z (class-passed c g .ready .wide) (e .size) (e .beyond) cleared (classRefusal c) (classList c) (c .answers) written r g
-        (rw class-numbers at told)
+    class-told x z written r g l told cleared =
+        ends-told (c .items) (c .area) x z (class-passed c g .ready .wide) (l .only .size ∙ e .size) (λ j b. l .only .outside j (inr (omega arith)) ∙ e .beyond j b) cleared (classRefusal c) (classList c)
+        (c .answers) written r g (rw (class-numbers x l) at told)

@@ -42,27 +42,13 @@ module _ (ρ : Rule) (g : Graph) (i : ℕ) (T : ℕ → List ℕ) (v u x y : ℕ
       not-agree (λ t. not-both all (and-right (sameEnds g v u x y && sameSteps g v u x y) all t) (all-not-at (splitOk ρ g i T v u x y) (ρ .many i) c l k))
 
   module _ (c : ℕ) {count a b : ℕ} (many : count ≡ ρ .many i) (ea : a ≡ ρ .first i c) (eb : b ≡ ρ .second i c) where
-    abbrev there : Bool
-    there = twins (g .items) (T (ρ .first i c)) (T (ρ .second i c)) v u x y
-
-    abbrev back : Bool
-    back = twins (g .items) (T (ρ .first i c)) (T (ρ .second i c)) x y v u
-
-    pub agree-there : c < count → {r : Bool} → r ≡ twins (g .items) (T a) (T b) v u x y → not r ≡ true → false ≡ agree ρ g i T v u x y
+    pub agree-split : c < count → {r : Bool} → r ≡ (twins (g .items) (T a) (T b) v u x y && twins (g .items) (T a) (T b) x y v u) → not r ≡ true → false ≡ agree ρ g i T v u x y
     unfolding splitOk
-    agree-there l {r} h k =
-        split-fails c (rw many at l) (not-true-of (there && back) (λ t. not-both there (and-left there back t) (rw (← ea, ← eb) (sym h ∙ not-true r k))))
+    agree-split l {r} h k = split-fails c (rw many at l) (rw (← ea, ← eb) (sym h ∙ not-true r k))
 
-    pub agree-back : c < count → {r : Bool} → r ≡ twins (g .items) (T a) (T b) x y v u → not r ≡ true → false ≡ agree ρ g i T v u x y
+    pub split-holds : {r : Bool} → r ≡ (twins (g .items) (T a) (T b) v u x y && twins (g .items) (T a) (T b) x y v u) → not r ≡ false → splitOk ρ g i T v u x y c ≡ true
     unfolding splitOk
-    agree-back l {r} h k =
-        split-fails c (rw many at l) (not-true-of (there && back) (λ t. not-both back (and-right there back t) (rw (← ea, ← eb) (sym h ∙ not-true r k))))
-
-    pub split-holds : {r s : Bool} → r ≡ twins (g .items) (T a) (T b) v u x y → not r ≡ false → s ≡ twins (g .items) (T a) (T b) x y v u → not s ≡ false
-        → splitOk ρ g i T v u x y c ≡ true
-    unfolding splitOk
-    split-holds {r} {s} h k h' k' =
-        and-intro there back (rw (← ea, ← eb) (sym h ∙ not-false r k)) (rw (← ea, ← eb) (sym h' ∙ not-false s k'))
+    split-holds {r} h k = rw (← ea, ← eb) (sym h ∙ not-false r k)
 
   pub agree-all : {r s : Bool} → r ≡ sameEnds g v u x y → not r ≡ false → s ≡ sameSteps g v u x y → not s ≡ false
       → allBelow (ρ .many i) (splitOk ρ g i T v u x y) ≡ true → true ≡ agree ρ g i T v u x y
@@ -86,3 +72,7 @@ module _ (n i : ℕ) (levels : List ℕ) (st : Stands n levels i) (c : ℕ) {cou
 pub at-is : (ρ : Rule) (g : Graph) (i : ℕ) (T : ℕ → List ℕ) (p q : ℕ) → agree ρ g i T (p / g .items) (p % g .items) (q / g .items) (q % g .items) ≡ agreeAt ρ g i T p q
 unfolding agreeAt
 at-is ρ g i T p q = refl
+
+-- where a level stands, level 1 does
+pub one-stands : (n i : ℕ) (levels : List ℕ) → Stands n levels i → Stands n levels 1
+one-stands n i levels st = record { some = omega arith; room = omega (arith, mul-le-mul-right {m = 1} {n = i} (n * n) (st .some), st .room) }

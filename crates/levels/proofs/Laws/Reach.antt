@@ -1,5 +1,5 @@
 -- Connected within i, by the numbers of the level below and one step more.
-use Prim.Native.Nat.{ℕ, zero, suc, _-_, _/_, _%_, _<_}
+use Prim.Native.Nat.{ℕ, zero, suc, _-_, _<_}
 use mathlib.Core.Path.{_≡_, refl, sym, _∙_}
 use mathlib.Core.Logic.{⊎-elim}
 use mathlib.Core.List.{List}
@@ -8,11 +8,11 @@ use native.Mathlib.Nat.{eq-zero-or-pos}
 use native.Mathlib.Numerals.{add-one}
 use native.Mathlib.Omega.{arith}
 use lib.Dec.{eqb}
-use borrow.Author.Tests.{eq-eqb, ne-eqb, eqb-false, not-true}
+use borrow.Author.Tests.{ne-eqb, eqb-false, not-true}
 use Rattle.rules.specs.Finite.{anyBelow}
 use Rattle.rules.specs.Graph.{connected}
 use Rattle.rules.specs.Rule.{rule}
-use Rattle.rules.specs.Levels.{numberAt, levelOf, connectedAt}
+use Rattle.rules.specs.Levels.{numberAt, levelOf}
 use Rattle.rules.specs.Accept.{LevelAccepted, LevelsAccepted}
 use Rattle.rules.proofs.Laws.Tests.{and-left, and-right, same}
 use Rattle.rules.proofs.Laws.Finite.{any-find, any-here}
@@ -29,15 +29,6 @@ module _ (n : ℕ) (levels area : List ℕ) (j v u m : ℕ) where
       → reach n levels area j v u m ≡ true
   unfolding reach
   reach-yes e k f t = rw (ne-eqb (numberAt n (levelOf n levels j) v m) 0 (λ z. k (e ∙ z))) (sym f ∙ t)
-
-  pub reach-no : {a : ℕ} → a ≡ numberAt n (levelOf n levels j) v m → a ≡ 0 → reach n levels area j v u m ≡ false
-  unfolding reach
-  reach-no e z = rw (eq-eqb (numberAt n (levelOf n levels j) v m) 0 (sym e ∙ z)) refl
-
-  pub reach-far : {a : ℕ} {b : Bool} → a ≡ numberAt n (levelOf n levels j) v m → (a ≡ 0 → ⊥) → b ≡ connected (markedGraph n area) 1 m u → b ≡ false
-      → reach n levels area j v u m ≡ false
-  unfolding reach
-  reach-far e k f t = rw (ne-eqb (numberAt n (levelOf n levels j) v m) 0 (λ z. k (e ∙ z))) (sym f ∙ t)
 
 reach-suc : (n : ℕ) (levels area : List ℕ) (j v u : ℕ) → v < n → u < n → LevelAccepted rule (markedGraph n area) (suc j) (levelOf n levels)
     → anyBelow n (reach n levels area (suc j) v u) ≡ connected (markedGraph n area) (suc (suc j)) v u
@@ -73,15 +64,7 @@ reach-is n levels area (suc (suc j)) v u p k hv hu ok =
     let e : suc (suc j) - 1 ≡ suc j = omega arith in
     rw e (reach-suc n levels area j v u hv hu (accepted-at rule (markedGraph n area) (suc j) (levelOf n levels) (rw e at ok) (suc j) (omega arith) (omega arith)))
 
--- the byte of a position
-pub byte-yes : (n i : ℕ) (area : List ℕ) (p : ℕ) {b : Bool} → b ≡ connected (markedGraph n area) i (p / n) (p % n) → b ≡ true → 1 ≡ oneIf (connectedAt (markedGraph n area) i p)
-unfolding oneIf connectedAt
-byte-yes n i area p e t = rw (sym e ∙ t) refl
-
-pub byte-no : (n i : ℕ) (area : List ℕ) (p : ℕ) {b : Bool} → b ≡ connected (markedGraph n area) i (p / n) (p % n) → b ≡ false → 0 ≡ oneIf (connectedAt (markedGraph n area) i p)
-unfolding oneIf connectedAt
-byte-no n i area p e t = rw (sym e ∙ t) refl
-
+-- what a position's byte says
 one-set : (b : Bool) → (oneIf b ≡ 0 → ⊥) → b ≡ true
 unfolding oneIf
 one-set true k = refl

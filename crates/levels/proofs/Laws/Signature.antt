@@ -19,15 +19,12 @@ use Rattle.rules.proofs.Laws.Places.{place-lt, row-lt, column-lt}
 use Rattle.rules.proofs.Laws.Agree.{Twins, Agree, agree-find}
 use Rattle.rules.proofs.Laws.Ends.{steps-here}
 use Rattle.levels.specs.Marks.{markedGraph}
-use Rattle.levels.specs.Chains.{keyOf, hashOf, midHash, mostBelow, splitMost, mostOf, bucketOf}
+use Rattle.levels.specs.Chains.{keyOf, mixOf, hashOf, midHash, mostBelow, Raised, hashAt, Mosts, pairMost, fourOf, splitMost, mostOf, bucketOf}
+use Rattle.levels.specs.Halves.{pairOf, Halves}
 use Rattle.levels.proofs.Laws.Marks.{steps-there, steps-back}
 
 -- the largest below a bound
-pub most-start : (f : ℕ → ℕ) → 0 ≡ mostBelow 0 f
-unfolding mostBelow
-most-start f = refl
-
-pub most-more : (n : ℕ) (f : ℕ → ℕ) → max (mostBelow n f) (f n) ≡ mostBelow (n + 1) f
+most-more : (n : ℕ) (f : ℕ → ℕ) → max (mostBelow n f) (f n) ≡ mostBelow (n + 1) f
 unfolding mostBelow
 most-more n f = rw add-one refl
 
@@ -51,7 +48,7 @@ module _ (k n : ℕ) (s t : List ℕ) (v u m : ℕ) where
   unfolding midHash
   mid-second e d f z = rw (ne-eqb (numberAt n s v m) 0 (λ q. d (e ∙ q)), eq-eqb (numberAt n t m u) 0 (sym f ∙ z)) refl
 
-  pub mid-both : {a b : ℕ} → a ≡ numberAt n s v m → (a ≡ 0 → ⊥) → b ≡ numberAt n t m u → (b ≡ 0 → ⊥) → midHash k n s t v u m ≡ hashOf k a b
+  pub mid-both : {a b : ℕ} → a ≡ numberAt n s v m → (a ≡ 0 → ⊥) → b ≡ numberAt n t m u → (b ≡ 0 → ⊥) → midHash k n s t v u m ≡ hashOf k (pairOf a b)
   unfolding midHash
   mid-both e d f l = rw (ne-eqb (numberAt n s v m) 0 (λ q. d (e ∙ q)), ne-eqb (numberAt n t m u) 0 (λ q. l (f ∙ q)), e, f) refl
 
@@ -69,28 +66,34 @@ most-twins k n s t v u x y tw = most-bound n (midHash k n s t v u) (mostBelow n 
         let f = mid-both k n s t x y (r .0) (r .2) (λ q. omega arith) (r .3) (λ q. omega arith) in
         omega (arith, e, f, most-at n (midHash k n s t x y) (r .0) (r .1))
 
+four-same : (f g : ℕ → ℕ) → ((k : ℕ) → f k ≡ g k) → fourOf f ≡ fourOf g
+unfolding fourOf
+four-same f g e = ap₂ _+_ (ap₂ _+_ (ap₂ _+_ (e 0) (e 1073741824)) (e 2147483648)) (e 3221225472)
+
+-- twins both ways: one largest hash
+pair-same : (k n : ℕ) (s t : List ℕ) (v u x y : ℕ) → Twins n s t v u x y → Twins n s t x y v u → pairMost n s t v u k ≡ pairMost n s t x y k
+unfolding pairMost
+pair-same k n s t v u x y there back = le-antisymm (most-twins k n s t v u x y there) (most-twins k n s t x y v u back)
+
 module _ (n i : ℕ) (levels area : List ℕ) (bytes : (q : ℕ) → getD area q 0 < 256) where
-  split-same : (k p q : ℕ) → 0 < rule .many i → Agree rule (markedGraph n area) i (levelOf n levels) (p / n) (p % n) (q / n) (q % n)
-      → splitMost k n i levels p ≡ splitMost k n i levels q
+  split-same : (p q : ℕ) → 0 < rule .many i → Agree rule (markedGraph n area) i (levelOf n levels) (p / n) (p % n) (q / n) (q % n)
+      → splitMost n i levels p ≡ splitMost n i levels q
   unfolding splitMost
-  split-same k p q h a =
+  split-same p q h a =
       let s = levelOf n levels (rule .first i 0) in
       let t = levelOf n levels (rule .second i 0) in
-      le-antisymm (most-twins k n s t (p / n) (p % n) (q / n) (q % n) (a .there 0 h)) (most-twins k n s t (q / n) (q % n) (p / n) (p % n) (a .back 0 h))
+      four-same (pairMost n s t (p / n) (p % n)) (pairMost n s t (q / n) (q % n)) (λ k. pair-same k n s t (p / n) (p % n) (q / n) (q % n) (a .there 0 h) (a .back 0 h))
 
   most-same : (p q : ℕ) → Agree rule (markedGraph n area) i (levelOf n levels) (p / n) (p % n) (q / n) (q % n) → mostOf n i levels p ≡ mostOf n i levels q
   unfolding mostOf
   most-same p q a = go (either (eqb (rule .many i) 0))
     where
-      two : ℕ → ℕ
-      two p = splitMost 0 n i levels p + splitMost 2147483648 n i levels p
-
-      go : (eqb (rule .many i) 0 ≡ true) ⊎ (eqb (rule .many i) 0 ≡ false) → cond (eqb (rule .many i) 0) 0 (two p) ≡ cond (eqb (rule .many i) 0) 0 (two q)
+      go : (eqb (rule .many i) 0 ≡ true) ⊎ (eqb (rule .many i) 0 ≡ false) → cond (eqb (rule .many i) 0) 0 (splitMost n i levels p) ≡ cond (eqb (rule .many i) 0) 0 (splitMost n i levels q)
       go (inl e) = rw e refl
       go (inr e) =
           let d = eqb-false (rule .many i) 0 e in
           let h : 0 < rule .many i = ⊎-elim (λ z. absurd (d z)) (λ l. l) (eq-zero-or-pos (rule .many i)) in
-          rw e (ap₂ _+_ (split-same 0 p q h a) (split-same 2147483648 p q h a))
+          rw e (split-same p q h a)
 
   pub key-read : (p : ℕ) → p < n * n → getD area (p / n * n + p % n) 0 + 256 * getD area (p % n * n + p / n) 0 ≡ keyOf n area p
   unfolding keyOf
@@ -122,40 +125,77 @@ pub bucket-lt : (n i : ℕ) (levels area : List ℕ) (p q : ℕ) → p < n * n �
 unfolding bucketOf
 bucket-lt n i levels area p q h = mod-lt _ (omega arith)
 
--- a turn of the search for the largest hash
-pub most-next : (n : ℕ) (f : ℕ → ℕ) {a b : ℕ} → a ≡ mostBelow n f → b ≡ max a (f n) → b ≡ mostBelow (n + 1) f
-most-next n f {a} {b} e k = k ∙ ap (λ (z : ℕ). max z (f n)) e ∙ most-more n f
+-- one turn of a hash raises one number
+pub turn-up : (k x a : ℕ) {y z r : ℕ} → y ≡ mixOf x → z ≡ (y + k) % 4294967296 → r ≡ max a z → r ≡ max a (hashOf k x)
+unfolding hashOf
+turn-up k x a ey ez er = er ∙ ap (λ (w : ℕ). max a w) (ez ∙ ap (λ (w : ℕ). (w + k) % 4294967296) ey)
 
--- what the larger of a number and a midpoint's hash is
-module _ (k n : ℕ) (s t : List ℕ) (v u m : ℕ) {a : ℕ} (ea : a ≡ numberAt n s v m) where
-  pub larger-none : {top : ℕ} → a ≡ 0 → top < 4294967296 → (top ≡ max top (midHash k n s t v u m)) × (top < 4294967296)
-  larger-none z h = (omega (arith, mid-first k n s t v u m ea z), h)
+-- the search for the largest hashes of a list: its start and its turn
+pub mosts-start : (list : List ℕ) → Mosts list 0 0 0 0 0
+unfolding mostBelow
+mosts-start list = record { none = refl; quarter = refl; half = refl; most = refl }
 
-  module _ (ka : a ≡ 0 → ⊥) {b : ℕ} (eb : b ≡ numberAt n t m u) where
-    pub larger-second : {top : ℕ} → b ≡ 0 → top < 4294967296 → (top ≡ max top (midHash k n s t v u m)) × (top < 4294967296)
-    larger-second z h = (omega (arith, mid-second k n s t v u m ea ka eb z), h)
+most-next : (list : List ℕ) (k j : ℕ) {a b : ℕ} → a ≡ mostBelow j (hashAt list k) → b ≡ max a (hashOf k (getD list j 0)) → b ≡ mostBelow (j + 1) (hashAt list k)
+unfolding hashAt
+most-next list k j e f = f ∙ ap (λ (z : ℕ). max z (hashOf k (getD list j 0))) e ∙ most-more j (hashAt list k)
 
-    module _ (kb : b ≡ 0 → ⊥) {d top : ℕ} (ed : (d ≡ hashOf k a b) × (d < 4294967296)) where
-      pub larger-new : top < d → (d ≡ max top (midHash k n s t v u m)) × (d < 4294967296)
-      larger-new h = (omega (arith, mid-both k n s t v u m ea ka eb kb, ed .0), ed .1)
+pub mosts-more : (list : List ℕ) (j : ℕ) {a b c d a′ b′ c′ d′ : ℕ} → Mosts list j a b c d → Raised (getD list j 0) a b c d a′ b′ c′ d′ → Mosts list (j + 1) a′ b′ c′ d′
+mosts-more list j m r =
+    record {
+      none = most-next list 0 j (m .none) (r .none);
+      quarter = most-next list 1073741824 j (m .quarter) (r .quarter);
+      half = most-next list 2147483648 j (m .half) (r .half);
+      most = most-next list 3221225472 j (m .most) (r .most);
+    }
 
-      pub larger-old : d ≤ top → top < 4294967296 → (top ≡ max top (midHash k n s t v u m)) × (top < 4294967296)
-      larger-old h l = (omega (arith, mid-both k n s t v u m ea ka eb kb, ed .0), l)
+-- the list of the midpoints has their largest hash
+module _ (n : ℕ) (s t : List ℕ) (v u k : ℕ) (list : List ℕ) (hs : Halves n s t v u n k list) (turn : ℕ) where
+  listed-le : (j : ℕ) → j < k → hashAt list turn j ≤ mostBelow n (midHash turn n s t v u)
+  unfolding hashAt
+  listed-le j h =
+      let r = hs .sound j h in
+      let e = mid-both turn n s t v u (r .item) refl (λ q. omega (arith, r .first)) refl (λ q. omega (arith, r .second)) in
+      omega (arith, ap (hashOf turn) (r .is), e, most-at n (midHash turn n s t v u) (r .item) (r .below))
+
+  mid-le : (m : ℕ) → m < n → (numberAt n s v m ≡ 0) ⊎ (0 < numberAt n s v m) → (numberAt n t m u ≡ 0) ⊎ (0 < numberAt n t m u)
+      → midHash turn n s t v u m ≤ mostBelow k (hashAt list turn)
+  unfolding hashAt
+  mid-le m h (inl z) b = omega (arith, mid-first turn n s t v u m refl z)
+  mid-le m h (inr a) (inl z) = omega (arith, mid-second turn n s t v u m refl (λ q. omega arith) refl z)
+  mid-le m h (inr a) (inr b) =
+      let l = hs .complete m h a b in
+      let e = mid-both turn n s t v u m refl (λ q. omega arith) refl (λ q. omega arith) in
+      omega (arith, e, ap (hashOf turn) (l .is), most-at k (hashAt list turn) (l .place) (l .below))
+
+  list-most : mostBelow k (hashAt list turn) ≡ pairMost n s t v u turn
+  unfolding pairMost
+  list-most =
+      le-antisymm
+      (most-bound k (hashAt list turn) (mostBelow n (midHash turn n s t v u)) listed-le)
+      (most-bound n (midHash turn n s t v u) (mostBelow k (hashAt list turn)) (λ m h. mid-le m h (eq-zero-or-pos (numberAt n s v m)) (eq-zero-or-pos (numberAt n t m u))))
 
 -- the first split, where level i has one
-pub split-is : (k n i : ℕ) (levels : List ℕ) (p : ℕ) {a b r : ℕ} → a ≡ rule .first i 0 → b ≡ rule .second i 0
-    → r ≡ mostBelow n (midHash k n (levelOf n levels a) (levelOf n levels b) (p / n) (p % n)) → r ≡ splitMost k n i levels p
-unfolding splitMost
-split-is k n i levels p ea eb h = rw (← ea, ← eb) h
+pub split-is : (n i : ℕ) (levels : List ℕ) (p : ℕ) {a b k : ℕ} (list : List ℕ) → a ≡ rule .first i 0 → b ≡ rule .second i 0
+    → Halves n (levelOf n levels a) (levelOf n levels b) (p / n) (p % n) n k list → {x y z w : ℕ} → Mosts list k x y z w → x + y + z + w ≡ splitMost n i levels p
+unfolding splitMost fourOf
+split-is n i levels p {a} {b} {k} list ea eb hs m =
+    let s = levelOf n levels a in
+    let t = levelOf n levels b in
+    rw (← ea, ← eb)
+    (ap₂ _+_ (ap₂ _+_ (ap₂ _+_
+    (m .none ∙ list-most n s t (p / n) (p % n) k list hs 0)
+    (m .quarter ∙ list-most n s t (p / n) (p % n) k list hs 1073741824))
+    (m .half ∙ list-most n s t (p / n) (p % n) k list hs 2147483648))
+    (m .most ∙ list-most n s t (p / n) (p % n) k list hs 3221225472))
 
 pub most-none : (n i : ℕ) (levels : List ℕ) (p : ℕ) {count : ℕ} → count ≡ rule .many i → count ≡ 0 → 0 ≡ mostOf n i levels p
 unfolding mostOf
 most-none n i levels p e z = rw (eq-eqb (rule .many i) 0 (sym e ∙ z)) refl
 
-pub most-some : (n i : ℕ) (levels : List ℕ) (p : ℕ) {count x y : ℕ} → count ≡ rule .many i → (count ≡ 0 → ⊥)
-    → x ≡ splitMost 0 n i levels p → y ≡ splitMost 2147483648 n i levels p → x + y ≡ mostOf n i levels p
+pub most-some : (n i : ℕ) (levels : List ℕ) (p : ℕ) {count x : ℕ} → count ≡ rule .many i → (count ≡ 0 → ⊥)
+    → x ≡ splitMost n i levels p → x ≡ mostOf n i levels p
 unfolding mostOf
-most-some n i levels p e d ex ey = rw (ne-eqb (rule .many i) 0 (λ z. d (e ∙ z))) (ap₂ _+_ ex ey)
+most-some n i levels p e d ex = rw (ne-eqb (rule .many i) 0 (λ z. d (e ∙ z))) ex
 
 -- what the bucket of a position is
 pub bucket-is : (n i : ℕ) (levels area : List ℕ) (p : ℕ) → p < n * n → ((q : ℕ) → getD area q 0 < 256) → {x y h : ℕ}
@@ -166,3 +206,8 @@ bucket-is n i levels area p hp bytes {x} {y} {h} ex ey eh = (
   ap (λ (z : ℕ). z % (n * n)) (ap₂ _+_ (ap₂ (λ (a b : ℕ). a + 256 * b) ex ey ∙ key-read n i levels area bytes p hp) eh),
   mod-lt (x + 256 * y + h) (omega arith),
 )
+
+-- what the code of the hash gives
+pub mix-is : (x : ℕ) → ((x / 4294967296 * 2654435761 % 4294967296 + x % 4294967296 * 2246822519 % 4294967296) % 4294967296 ≡ mixOf x) × ((x / 4294967296 * 2654435761 % 4294967296 + x % 4294967296 * 2246822519 % 4294967296) % 4294967296 < 4294967296)
+unfolding mixOf
+mix-is x = (refl, mod-lt _ (omega arith))

@@ -1,18 +1,18 @@
--- The numbers of a level, and what the search for a midpoint's twin has learnt when it is left.
+-- The numbers of a level, and when a midpoint has a twin.
 use Prim.Native.Nat.{ℕ, zero, suc, _+_, _*_, _-_, _≤_, _<_}
 use mathlib.Core.Path.{_≡_, refl, sym, _∙_}
 use mathlib.Core.List.{List}
-use mathlib.Core.Bool.{Bool, true, false, not, _&&_, _||_, Bool·beq}
+use mathlib.Core.Bool.{Bool, true, false, not, _||_, Bool·beq}
 use native.Mathlib.Nat.{suc-mul}
 use native.Mathlib.Omega.{arith}
 use lib.Dec.{eqb}
 use lib.ListN.{length, getD}
 use borrow.Author.Tests.{eq-eqb, ne-eqb}
-use Rattle.rules.specs.Finite.{anyBelow, allBelow}
+use Rattle.rules.specs.Finite.{anyBelow}
 use Rattle.rules.specs.Graph.{Graph}
 use Rattle.rules.specs.Rule.{rule}
-use Rattle.rules.specs.Levels.{numberAt, levelOf, sameEnds, isTwin, hasTwin, twins}
-use Rattle.rules.proofs.Laws.Tests.{or-left, or-right, not-true-of, and-right, not-both}
+use Rattle.rules.specs.Levels.{numberAt, levelOf, sameEnds, isTwin, hasTwin}
+use Rattle.rules.proofs.Laws.Tests.{or-left, or-right}
 use Rattle.rules.proofs.Laws.Finite.{any-here}
 use Rattle.rules.proofs.Laws.Levels.{entry-get, level-get, level-size}
 
@@ -65,27 +65,6 @@ module _ (n : ℕ) (s t : List ℕ) (v u x y m : ℕ) where
       or-right (eqb (numberAt n s v m) 0 || eqb (numberAt n t m u) 0) (anyBelow n (isTwin n s t v u x y m))
       (any-here n (isTwin n s t v u x y m) w l
       (rw (eq-eqb (numberAt n s x w) (numberAt n s v m) (sym hd ∙ da ∙ ha), eq-eqb (numberAt n t w y) (numberAt n t m u) (sym he ∙ eb ∙ hb)) refl))
-
-  pub no-twin-1 : {a d : ℕ} (w : ℕ) → a ≡ numberAt n s v m → d ≡ numberAt n s x w → (d ≡ a → ⊥) → isTwin n s t v u x y m w ≡ false
-  unfolding isTwin
-  no-twin-1 w ha hd k = rw (ne-eqb (numberAt n s x w) (numberAt n s v m) (λ q. k (hd ∙ q ∙ sym ha))) refl
-
-  pub no-twin-2 : {b e : ℕ} (w : ℕ) → b ≡ numberAt n t m u → e ≡ numberAt n t w y → (e ≡ b → ⊥) → isTwin n s t v u x y m w ≡ false
-  unfolding isTwin
-  no-twin-2 w hb he k =
-      let a = eqb (numberAt n s x w) (numberAt n s v m) in
-      let b = eqb (numberAt n t w y) (numberAt n t m u) in
-      not-true-of (a && b) (λ z. not-both b (and-right a b z) (ne-eqb (numberAt n t w y) (numberAt n t m u) (λ q. k (he ∙ q ∙ sym hb))))
-
-  pub twin-missing : {a b : ℕ} → a ≡ numberAt n s v m → b ≡ numberAt n t m u → (a ≡ 0 → ⊥) → (b ≡ 0 → ⊥)
-      → anyBelow n (isTwin n s t v u x y m) ≡ false → hasTwin n s t v u x y m ≡ false
-  unfolding hasTwin
-  twin-missing ha hb ka kb none =
-      rw (ne-eqb (numberAt n s v m) 0 (λ q. ka (ha ∙ q)), ne-eqb (numberAt n t m u) 0 (λ q. kb (hb ∙ q))) none
-
-pub twins-is : (n : ℕ) (s t : List ℕ) (v u x y : ℕ) {b : Bool} → allBelow n (hasTwin n s t v u x y) ≡ b → b ≡ twins n s t v u x y
-unfolding twins
-twins-is n s t v u x y h = sym h
 
 pub ends-same : (g : Graph) (v u x y : ℕ) → v ≡ u → eqb x y ≡ sameEnds g v u x y
 unfolding sameEnds

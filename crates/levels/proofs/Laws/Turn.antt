@@ -50,18 +50,15 @@ bucket-kept n i l l' w w' e below = fun-ext (λ p. ap (λ (z : ℕ). z % (n * n)
     key : (p : ℕ) → getD (take (n * n) w') p 0 + 256 * getD (take (n * n) w') (p % n * n + p / n) 0 ≡ getD (take (n * n) w) p 0 + 256 * getD (take (n * n) w) (p % n * n + p / n) 0
     key p = ap (λ (z : List ℕ). getD z p 0 + 256 * getD z (p % n * n + p / n) 0) e
 
-    over : (k p : ℕ) → 0 < rule .many i → splitMost k n i l' p ≡ splitMost k n i l p
-    over k p h = rw (below (rule .first i 0) (rule .first-below i 0 h), below (rule .second i 0) (rule .second-below i 0 h)) refl
+    over : (p : ℕ) → 0 < rule .many i → splitMost n i l' p ≡ splitMost n i l p
+    over p h = rw (below (rule .first i 0) (rule .first-below i 0 h), below (rule .second i 0) (rule .second-below i 0 h)) refl
 
-    two : List ℕ → ℕ → ℕ
-    two z p = splitMost 0 n i z p + splitMost 2147483648 n i z p
-
-    most : (p : ℕ) → (eqb (rule .many i) 0 ≡ true) ⊎ (eqb (rule .many i) 0 ≡ false) → cond (eqb (rule .many i) 0) 0 (two l' p) ≡ cond (eqb (rule .many i) 0) 0 (two l p)
+    most : (p : ℕ) → (eqb (rule .many i) 0 ≡ true) ⊎ (eqb (rule .many i) 0 ≡ false) → cond (eqb (rule .many i) 0) 0 (splitMost n i l' p) ≡ cond (eqb (rule .many i) 0) 0 (splitMost n i l p)
     most p (inl t) = rw t refl
     most p (inr t) =
         let k = eqb-false (rule .many i) 0 t in
         let h : 0 < rule .many i = ⊎-elim (λ z. absurd (k z)) (λ b. b) (eq-zero-or-pos (rule .many i)) in
-        rw t (ap₂ _+_ (over 0 p h) (over 2147483648 p h))
+        rw t (over p h)
 
 module _ (n i : ℕ) (l w : List ℕ) (ready : Ready n i l w) (p : ℕ) (l' : List ℕ) (e : l' ≡ put l (base n i) (numbers n i l w ready p)) (h : p ≤ n * n)
     (w' : List ℕ) (s : Steady n w w') where

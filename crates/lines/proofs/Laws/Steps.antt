@@ -116,8 +116,8 @@ module _ (s : State) (b : ℕ) (part edges levels entries : List ℕ) where
   byte-more e h = rw (e, ne-eqb b 10 h)
 
 -- before the first byte
-pub begins-stands : Stands (record { progress = record { phase = Opening; items = 0; labels = 0; k = 0; edges = 0; entries = 0 }; lines = 0; held = 0 })
-begins-stands =
+pub begins-stands : (lines : ℕ) → Stands (record { progress = record { phase = Opening; items = 0; labels = 0; k = 0; edges = 0; entries = 0 }; lines = lines; held = 0 })
+begins-stands lines =
     record {
       progress-fits =
           record {

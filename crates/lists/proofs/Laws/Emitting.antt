@@ -53,16 +53,16 @@ module _ (n : ℕ) (t : List ℕ) (J : ℕ → ℕ → Bool) (code v : ℕ) wher
   unfolding entriesRow
   step u b e = rw (add-one u) (rw e)
 
-  miss : (u : ℕ) → (isFirst t (v * n + u) && J v u) ≡ false → entriesRow n t J code v u ≡ entriesRow n t J code v (u + 1)
-  miss u e = sym (step u false e ∙ append-nil (entriesRow n t J code v u))
+  pub row-miss : (u : ℕ) → (isFirst t (v * n + u) && J v u) ≡ false → entriesRow n t J code v u ≡ entriesRow n t J code v (u + 1)
+  row-miss u e = sym (step u false e ∙ append-nil (entriesRow n t J code v u))
 
   module _ (w : List ℕ) (firsts : Firsts n t w) (u : ℕ) (hv : v < n) (hu : u < n) where
     pub row-later : getD w (8 * (n * n) + (v * n + u)) 0 ≡ 0 → entriesRow n t J code v u ≡ entriesRow n t J code v (u + 1)
-    row-later e = miss u (rw (unmarked (isFirst t (v * n + u)) (sym (firsts .mark (v * n + u) (place-lt n v u hv hu)) ∙ e)))
+    row-later e = row-miss u (rw (unmarked (isFirst t (v * n + u)) (sym (firsts .mark (v * n + u) (place-lt n v u hv hu)) ∙ e)))
 
     module _ (from l : ℕ) (slot : Slot n from l w J) where
       pub row-without : bitAt l (getD w (from + (v * n + u)) 0) ≡ false → entriesRow n t J code v u ≡ entriesRow n t J code v (u + 1)
-      row-without e = miss u (rw (sym (slot .cell v u hv hu) ∙ e) (and-false (isFirst t (v * n + u))))
+      row-without e = row-miss u (rw (sym (slot .cell v u hv hu) ∙ e) (and-false (isFirst t (v * n + u))))
 
       pub row-with : (getD w (8 * (n * n) + (v * n + u)) 0 ≡ 0 → ⊥) → bitAt l (getD w (from + (v * n + u)) 0) ≡ true
           → entriesRow n t J code v u ++ (code ∷ (getD t (v * n + u) 0 ∷ [])) ≡ entriesRow n t J code v (u + 1)

@@ -1,3 +1,4 @@
+-- A, B and C are left at the first that fails. The invariant for C: the first c splits hold, their levels by the rule.
 use Prim.Native.Nat.{_-_, _≤_}
 use mathlib.Core.Path.{_≡_}
 use mathlib.Core.Bool.{true}
@@ -8,7 +9,7 @@ use Rattle.rules.specs.Rule.{rule}
 use Rattle.rules.specs.Levels.{levelOf, splitOk}
 use Rattle.rules.proofs.Laws.Loops.{all-start, all-more, all-done}
 use Rattle.levels.specs.Marks.{markedGraph}
-use Rattle.levels.proofs.Laws.Agreement.{agree-ends, agree-steps, agree-there, agree-back, split-holds, agree-all, first-stands, second-stands}
+use Rattle.levels.proofs.Laws.Agreement.{agree-ends, agree-steps, agree-split, split-holds, agree-all, first-stands, second-stands}
 use Rattle.levels.proofs.agree.agree.Statement.{statement}
 use Rattle.levels.proofs.agree.agree.Tie as tie
 
@@ -42,45 +43,25 @@ first-level-requires c κs = search needs
 second-level-requires : tie.Need-second-level-requires Inv-loop μ-loop
 second-level-requires c κs = search needs
 
-twins-requires : tie.Need-twins-requires Inv-loop μ-loop
-twins-requires c κs =
+same-halves-requires : tie.Need-same-halves-requires Inv-loop μ-loop
+same-halves-requires c κs =
     let b = c .before in
     let l = b .before .before in
     let s = l .before in
     let a = s .before .before .before .before .before .before .before in (
-      first-stands _ _ _ (a .pre .0) _ (s .splits .ensures) (b .before .loop-test .taken) (b .first-level .ensures),
-      second-stands _ _ _ (a .pre .0) _ (s .splits .ensures) (b .before .loop-test .taken) (c .second-level .ensures),
-      search needs,
-      search needs,
+      a .pre .0,
+      first-stands _ _ _ (a .pre .1) _ (s .splits .ensures) (b .before .loop-test .taken) (b .first-level .ensures),
+      second-stands _ _ _ (a .pre .1) _ (s .splits .ensures) (b .before .loop-test .taken) (c .second-level .ensures),
+      a .pre .3,
+      a .pre .4,
     )
 
 returns-3 : tie.Need-returns-3 Inv-loop μ-loop
 returns-3 c =
     let b = c .before .before in
     let l = b .before .before in
-    agree-there _ _ _ _ _ _ _ _ _ (l .before .before .splits .ensures) (b .before .first-level .ensures) (b .second-level .ensures)
-    (l .loop-test .taken) (c .before .twins .ensures) (c .if3 .taken)
-
-twins-requires-2 : tie.Need-twins-requires-2 Inv-loop μ-loop
-twins-requires-2 c κs =
-    let d = c .before .before in
-    let b = d .before in
-    let l = b .before .before in
-    let s = l .before in
-    let a = s .before .before .before .before .before .before .before in (
-      first-stands _ _ _ (a .pre .0) _ (s .splits .ensures) (b .before .loop-test .taken) (b .first-level .ensures),
-      second-stands _ _ _ (a .pre .0) _ (s .splits .ensures) (b .before .loop-test .taken) (d .second-level .ensures),
-      search needs,
-      search needs,
-    )
-
-returns-4 : tie.Need-returns-4 Inv-loop μ-loop
-returns-4 c =
-    let t = c .before .before .before in
-    let b = t .before in
-    let l = b .before .before in
-    agree-back _ _ _ _ _ _ _ _ _ (l .before .before .splits .ensures) (b .before .first-level .ensures) (b .second-level .ensures)
-    (l .loop-test .taken) (c .before .twins2 .ensures) (c .if4 .taken)
+    agree-split _ _ _ _ _ _ _ _ _ (l .before .before .splits .ensures) (b .before .first-level .ensures) (b .second-level .ensures)
+    (l .loop-test .taken) (c .before .same-halves .ensures) (c .if3 .taken)
 
 add-c : tie.Need-add-c Inv-loop μ-loop
 add-c c = omega arith
@@ -90,17 +71,16 @@ loop-less c = omega arith
 
 loop-again : tie.Need-loop-again Inv-loop μ-loop
 loop-again c =
-    let t = c .before .before .before in
-    let b = t .before in
+    let b = c .before .before in
     let l = b .before .before in (
       omega arith,
       all-more _ _ (l .before .loop .inv .1)
           (split-holds _ _ _ _ _ _ _ _ _ (l .before .before .splits .ensures) (b .before .first-level .ensures) (b .second-level .ensures)
-          (t .twins .ensures) (c .before .before .if3 .left) (c .before .twins2 .ensures) (c .if4 .left)),
+          (c .before .same-halves .ensures) (c .if3 .left)),
     )
 
-returns-5 : tie.Need-returns-5 Inv-loop μ-loop
-returns-5 c =
+returns-4 : tie.Need-returns-4 Inv-loop μ-loop
+returns-4 c =
     let l = c .before in
     let e = l .before .before in
     let s = e .before in
@@ -121,11 +101,9 @@ agree-spec =
     loop-holds
     first-level-requires
     second-level-requires
-    twins-requires
+    same-halves-requires
     returns-3
-    twins-requires-2
-    returns-4
     add-c
     loop-less
     loop-again
-    returns-5)
+    returns-4)

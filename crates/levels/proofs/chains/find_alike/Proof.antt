@@ -1,3 +1,4 @@
+-- The invariant: whatever in the chain is alike p is still ahead. Links lead down, so the walk ends; then no earlier position is alike.
 use Prim.Native.Nat.{ℕ, _*_, _-_, _<_}
 use native.Mathlib.Omega.{arith}
 use lib.ListN.{getD}
@@ -54,6 +55,7 @@ agree-requires c κs =
     let q2 = column-lt _ _ h in
     let p1 = row-lt _ _ (a .pre .1) in
     let p2 = column-lt _ _ (a .pre .1) in (
+      a .pre .0 .few,
       record { some = a .pre .0 .some; room = a .pre .0 .room },
       record { room = omega arith },
       record { first = omega arith; second = omega arith },

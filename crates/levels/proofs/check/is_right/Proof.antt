@@ -1,3 +1,4 @@
+-- Four cases: not connected, 0 though connected, a new number, an old one; the last reads its first position and tests agreement with it.
 use lib.ListN.{getD}
 use Prim.Native.Nat.{_*_, _<_}
 use mathlib.Core.Path.{_≡_, sym, ap, _∙_}
@@ -114,6 +115,7 @@ agree-requires c κs =
     let q2 = column-lt _ _ h in
     let p1 = row-lt _ _ (a .pre .2 .inside) in
     let p2 = column-lt _ _ (a .pre .2 .inside) in (
+      a .pre .0 .few,
       record { some = a .pre .0 .some; room = a .pre .0 .room },
       record { room = omega arith },
       record { first = omega arith; second = omega arith },

@@ -1,62 +1,51 @@
-use Prim.Native.Nat.{_*_, _-_, _≤_}
-use mathlib.Core.Path.{_≡_, refl, _∙_}
+-- The invariant: the first v rows behind the marks are written. All n rows are one fill of n·n bytes (`fill-rows`).
+use Prim.Native.Nat.{_+_, _*_, _-_, _≤_}
+use mathlib.Core.Path.{_≡_, sym, _∙_}
 use native.Mathlib.Omega.{arith}
-use lib.ListN.{length, length-set}
-use Rattle.rules.specs.Writing.{fill}
-use Rattle.rules.proofs.Laws.Writing.{fill-none, fill-more}
+use lib.ListN.{length}
+use Rattle.rules.specs.Writing.{rows}
+use Rattle.rules.proofs.Laws.Writing.{rows-none, fill-rows}
 use Rattle.levels.specs.Needs.{nearByte}
-use Rattle.levels.proofs.Laws.Areas.{ready-area, near-marks, byte-kept}
+use Rattle.levels.proofs.Laws.Areas.{ready-area}
+use Rattle.levels.proofs.Laws.Rows.{rows-marks, rows-size, rows-turn}
 use Rattle.levels.proofs.near.mark_near.Statement.{statement}
 use Rattle.levels.proofs.near.mark_near.Tie as tie
 
 abbrev Inv-loop : tie.InvT-loop
-Inv-loop n i levels area₀ count p₀ area p = (p ≤ count) × (area ≡ fill area₀ (n * n) p (nearByte n i area₀)) × (length area ≡ length area₀)
+Inv-loop n i levels area₀ v₀ area v = (v ≤ n) × (area ≡ rows area₀ (n * n) n v (λ x u. nearByte n i area₀ (x * n + u)))
 
 abbrev μ-loop : tie.MeasureT-loop
-μ-loop n i levels area₀ count p₀ area p = count - p
-
-mul-count : tie.Need-mul-count Inv-loop μ-loop
-mul-count c = omega arith
+μ-loop n i levels area₀ v₀ area v = n - v
 
 loop-holds : tie.Need-loop-holds Inv-loop μ-loop
-loop-holds c = (omega arith, fill-none _ _ _, refl)
+loop-holds c = (omega arith, rows-none _ _ _ _)
 
-near-byte-requires : tie.Need-near-byte-requires Inv-loop μ-loop
-near-byte-requires c κs =
+near-row-requires : tie.Need-near-row-requires Inv-loop μ-loop
+near-row-requires c κs =
     let l = c .before .before in
-    let a = l .before .before .before in
-    let i = l .loop .inv in
-    (ready-area _ _ _ _ _ (a .pre) (near-marks _ _ _ _ _ (i .1)) (i .2), c .before .loop-test .taken)
+    let e = l .loop .inv .1 in
+    (ready-area _ _ _ _ _ (l .before .before .before .pre) (rows-marks _ _ _ _ _ e) (rows-size _ _ _ _ _ e), c .before .loop-test .taken)
 
-add-area : tie.Need-add-area Inv-loop μ-loop
-add-area c = omega arith
-
-slice-write-area : tie.Need-slice-write-area Inv-loop μ-loop
-slice-write-area c = omega arith
-
-add-p : tie.Need-add-p Inv-loop μ-loop
-add-p c = omega arith
+add-v : tie.Need-add-v Inv-loop μ-loop
+add-v c = omega arith
 
 loop-less : tie.Need-loop-less Inv-loop μ-loop
 loop-less c = omega arith
 
 loop-again : tie.Need-loop-again Inv-loop μ-loop
 loop-again c =
-    let l = c .before .before .before .loop in (
-      omega arith,
-      fill-more _ _ _ _ _ _ _ (l .inv .1) refl (c .near-byte .ensures ∙ byte-kept _ _ _ _ _ (near-marks _ _ _ _ _ (l .inv .1))),
-      simp length-set (l .inv .2),
-    )
+    let s = c .before .before in
+    let l = s .before .before .before .loop in
+    (omega arith, rows-turn _ _ _ _ _ (l .inv .1) _ (s .near-row .ensures))
 
 same-length : tie.Need-same-length Inv-loop μ-loop
-same-length c = c .before .loop .inv .2
+same-length c = rows-size _ _ _ _ _ (c .before .loop .inv .1)
 
 returns : tie.Need-returns Inv-loop μ-loop
 returns c =
     let l = c .before .loop in
-    let a = c .before .before .before .before .args in
-    let e : l .p ≡ a .n * a .n = omega arith in
-    rw e at (l .inv .1)
+    let e : l .v ≡ c .before .before .before .before .args .n = omega arith in
+    rw e at (l .inv .1) ∙ sym (fill-rows _ _ _ _ _)
 
 pub mark-near-spec : {M : Type 1} → statement M
 mark-near-spec =
@@ -64,12 +53,9 @@ mark-near-spec =
     (tie.spec
     Inv-loop
     μ-loop
-    mul-count
     loop-holds
-    near-byte-requires
-    add-area
-    slice-write-area
-    add-p
+    near-row-requires
+    add-v
     loop-less
     loop-again
     same-length

@@ -4,7 +4,7 @@ use Rattle.lines.proofs.steps.start.Statement.{statement}
 use Rattle.lines.proofs.steps.start.Tie as tie
 
 returns : tie.Need-returns
-returns c = (begins-stands, λ part edges levels entries. begins part edges levels entries)
+returns c = (begins-stands _, λ part edges levels entries. begins part edges levels entries)
 
 pub start-spec : {M : Type 1} → statement M
 start-spec = tie.close (tie.spec returns)

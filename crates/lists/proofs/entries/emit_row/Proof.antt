@@ -1,154 +1,96 @@
-use Prim.Native.Nat.{ℕ, _+_, _*_, _-_, _≤_, _<_}
-use mathlib.Core.Path.{_≡_, refl, sym, ap, _∙_}
-use mathlib.Core.Bool.{Bool}
+-- Three ways: no hit in the row; nothing lent, so the count of hits is all; or the entries one by one.
+use Prim.Native.Nat.{_+_, _*_, _≤_}
 use native.Mathlib.Omega.{arith}
-use borrow.Author.Tests.{not-true, not-false}
-use lib.ListN.{length}
-use Rattle.lists.specs.Relations.{Slot}
-use Rattle.rules.proofs.Laws.Places.{place-lt, row-fits, square-le}
-use Rattle.lists.specs.Entries.{Went, Firsts, entriesRow}
-use Rattle.lists.proofs.Laws.Went as went
-use Rattle.lists.proofs.Laws.Emitting as emitting
+use borrow.Author.Needs.{needs}
+use Rattle.rules.proofs.Laws.Places.{row-fits, square-le}
+use Rattle.lists.specs.Entries.{isHit}
+use Rattle.lists.proofs.Laws.Hits.{count-le, row-missed, row-counted}
 use Rattle.lists.proofs.entries.emit_row.Statement.{statement}
 use Rattle.lists.proofs.entries.emit_row.Tie as tie
 
-abbrev Inv-loop : tie.InvT-loop
-Inv-loop table n v code from l area stored out₀ row firsts done₀ u₀ out done u = (u ≤ n) × (done .count ≤ done₀ .count + u) × (length out ≡ length out₀) × ((J : ℕ → ℕ → Bool) → Slot n from l area J → Firsts n table area → Went (done₀ .count) (done₀ .met) (done .count) (done .met) (entriesRow n table J code v u) stored out₀ out)
+-- the row lies in its block
+row : (c : tie.Start) → c .args .v * c .args .n + c .args .n ≤ c .args .n * c .args .n
+row c = row-fits (c .args .n) (c .pre .0)
 
-abbrev μ-loop : tie.MeasureT-loop
-μ-loop table n v code from l area stored out₀ row firsts done₀ u₀ out done u = n - u
+mul-row : tie.Need-mul-row
+mul-row c =
+    let a = c .before .before .before .before in
+    omega (arith, row a, square-le (a .pre .1 .small))
 
-cell : (c : tie.In-loop Inv-loop μ-loop) → c .before .before .before .before .before .before .args .v * c .before .before .before .before .before .before .args .n + c .before .loop .u < c .before .before .before .before .before .before .args .n * c .before .before .before .before .before .before .args .n
-cell c = place-lt (c .before .before .before .before .before .before .args .n) _ _ (c .before .before .before .before .before .before .pre .0) (c .loop-test .taken)
+add-count-row : tie.Need-add-count-row
+add-count-row c =
+    let a = c .before .before .before .before in
+    omega (arith, row a, a .pre .1 .room)
 
-mul-row : tie.Need-mul-row Inv-loop μ-loop
-mul-row c = omega (arith, row-fits (c .before .before .before .before .args .n) (c .before .before .before .before .pre .0), square-le (c .before .before .before .before .pre .1 .small))
+mul-count-row : tie.Need-mul-count-row
+mul-count-row c = search needs
 
-mul-firsts : tie.Need-mul-firsts Inv-loop μ-loop
-mul-firsts c = omega (arith, square-le (c .before .before .before .before .pre .1 .small))
+mul-count-row-2 : tie.Need-mul-count-row-2
+mul-count-row-2 c = search needs
 
-mul-firsts-2 : tie.Need-mul-firsts-2 Inv-loop μ-loop
-mul-firsts-2 c = omega (arith, square-le (c .before .before .before .before .pre .1 .small))
+add-count-row-2 : tie.Need-add-count-row-2
+add-count-row-2 c =
+    let a = c .before .before .before .before in
+    omega (arith, row a, a .pre .1 .area)
 
-loop-holds : tie.Need-loop-holds Inv-loop μ-loop
-loop-holds c = (omega arith, omega arith, refl, λ J s f. went.went-as _ _ _ _ _ _ _ _ _ (emitting.row-none _ _ J _ _) (went.went-none _ _ _ _))
+count-row-requires : tie.Need-count-row-requires
+count-row-requires c κs =
+    let a = c .before .before .before .before in
+    (a .pre .1 .label, a .pre .1 .small, omega (arith, row a, a .pre .1 .room), omega (arith, row a, a .pre .1 .area))
 
-add-p : tie.Need-add-p Inv-loop μ-loop
-add-p c = omega (arith, cell (c), square-le (c .before .before .before .before .before .before .pre .1 .small))
+returns : tie.Need-returns
+returns c =
+    let k = c .before in
+    let a = k .before .before .before .before .before in
+    (omega arith, λ J s f. row-missed _ _ J _ _ _ _ _ (a .pre .0) s f _ _ _ _ (k .count-row .ensures) (c .if1 .taken))
 
-add-if1 : tie.Need-add-if1 Inv-loop μ-loop
-add-if1 c = omega (arith, cell (c), square-le (c .before .before .before .before .before .before .pre .1 .small))
+add-if2 : tie.Need-add-if2
+add-if2 c = search needs
 
-shared-slice-read-if1 : tie.Need-shared-slice-read-if1 Inv-loop μ-loop
-shared-slice-read-if1 c = omega (arith, cell (c .before), c .before .before .before .before .before .before .before .pre .1 .area)
+-- a row has no more hits than items
+few : (c : tie.After-count-row) → c .count-row .result ≤ c .before .before .before .before .before .args .n
+few c =
+    let a = c .before .before .before .before .before in
+    rw (c .count-row .ensures) (count-le (a .args .n) (isHit (a .args .area .now) (a .args .from + a .args .v * a .args .n) (8 * (a .args .n * a .args .n) + a .args .v * a .args .n) (a .args .l)))
 
-add-u : tie.Need-add-u Inv-loop μ-loop
-add-u c = omega arith
+add-t18 : tie.Need-add-t18
+add-t18 c =
+    let k = c .before .before .before in
+    let a = k .before .before .before .before .before in
+    omega (arith, few k, a .pre .1 .few)
 
-loop-less : tie.Need-loop-less Inv-loop μ-loop
-loop-less c = omega arith
+returns-2 : tie.Need-returns-2
+returns-2 c =
+    let e = c .before .before in
+    let k = e .before in
+    let a = k .before .before .before .before .before in (
+      omega (arith, few k),
+      λ J s f. row-counted _ _ J _ _ _ _ _ (a .pre .0) s f _ _ _ _ (k .count-row .ensures) (e .if1 .left) (c .before .if2 .taken),
+    )
 
-loop-again : tie.Need-loop-again Inv-loop μ-loop
-loop-again c = (
-  omega arith,
-  omega (arith, c .before .before .before .loop .inv .1),
-  c .before .before .before .loop .inv .2,
-  λ J s f.
-      went.went-as _ _ _ _ _ _ _ _ _
-      (emitting.row-later (c .before .before .before .before .before .before .before .before .args .n) (c .before .before .before .before .before .before .before .before .args .table .now) J (c .before .before .before .before .before .before .before .before .args .code) (c .before .before .before .before .before .before .before .before .args .v) (c .before .before .before .before .before .before .before .before .args .area .now) f (c .before .before .before .loop .u) (c .before .before .before .before .before .before .before .before .pre .0) (c .before .before .loop-test .taken) (c .if1 .taken))
-      (c .before .before .before .loop .inv .3 J s f),
-)
+put-row-requires : tie.Need-put-row-requires
+put-row-requires c κs = search needs
 
-add-has-bit : tie.Need-add-has-bit Inv-loop μ-loop
-add-has-bit c = omega (arith, cell (c .before .before), c .before .before .before .before .before .before .before .before .pre .1 .room)
+same-length : tie.Need-same-length
+same-length c = search needs
 
-shared-slice-read-has-bit : tie.Need-shared-slice-read-has-bit Inv-loop μ-loop
-shared-slice-read-has-bit c = omega (arith, cell (c .before .before .before), c .before .before .before .before .before .before .before .before .before .pre .1 .room)
-
-has-bit-requires : tie.Need-has-bit-requires Inv-loop μ-loop
-has-bit-requires c κs = c .before .before .before .before .before .before .before .before .before .pre .1 .label
-
-add-u-2 : tie.Need-add-u-2 Inv-loop μ-loop
-add-u-2 c = omega arith
-
-loop-less-2 : tie.Need-loop-less-2 Inv-loop μ-loop
-loop-less-2 c = omega arith
-
-loop-again-2 : tie.Need-loop-again-2 Inv-loop μ-loop
-loop-again-2 c = (
-  omega arith,
-  omega (arith, c .before .before .before .before .before .before .loop .inv .1),
-  c .before .before .before .before .before .before .loop .inv .2,
-  λ J s f.
-      went.went-as _ _ _ _ _ _ _ _ _
-      (emitting.row-without (c .before .before .before .before .before .before .before .before .before .before .before .args .n) (c .before .before .before .before .before .before .before .before .before .before .before .args .table .now) J (c .before .before .before .before .before .before .before .before .before .before .before .args .code) (c .before .before .before .before .before .before .before .before .before .before .before .args .v) (c .before .before .before .before .before .before .before .before .before .before .before .args .area .now) f (c .before .before .before .before .before .before .loop .u) (c .before .before .before .before .before .before .before .before .before .before .before .pre .0) (c .before .before .before .before .before .loop-test .taken) (c .before .before .before .before .before .before .before .before .before .before .before .args .from) (c .before .before .before .before .before .before .before .before .before .before .before .args .l) s
-      (sym (c .before .has-bit .ensures) ∙ not-true _ (c .if2 .taken)))
-      (c .before .before .before .before .before .before .loop .inv .3 J s f),
-)
-
-mul-put : tie.Need-mul-put Inv-loop μ-loop
-mul-put c = omega (arith, cell (c .before .before .before .before .before .before), square-le (c .before .before .before .before .before .before .before .before .before .before .before .before .pre .1 .small))
-
-shared-slice-read-put : tie.Need-shared-slice-read-put Inv-loop μ-loop
-shared-slice-read-put c = omega (arith, cell (c .before .before .before .before .before .before .before), c .before .before .before .before .before .before .before .before .before .before .before .before .before .pre .1 .square)
-
-put-requires : tie.Need-put-requires Inv-loop μ-loop
-put-requires c κs = omega (arith, c .before .before .before .before .before .before .before .before .loop .inv .1, c .before .before .before .before .before .before .before .before .before .before .before .before .before .pre .1 .few)
-
-add-u-3 : tie.Need-add-u-3 Inv-loop μ-loop
-add-u-3 c = omega arith
-
-loop-less-3 : tie.Need-loop-less-3 Inv-loop μ-loop
-loop-less-3 c = omega arith
-
-loop-again-3 : tie.Need-loop-again-3 Inv-loop μ-loop
-loop-again-3 c = (
-  omega arith,
-  omega (arith, c .before .before .before .before .before .before .before .before .before .before .before .loop .inv .1, c .before .before .put .ensures .0),
-  c .before .before .put .ensures .1 .size ∙ c .before .before .before .before .before .before .before .before .before .before .before .loop .inv .2,
-  λ J s f.
-      went.went-as _ _ _ _ _ _ _ _ _
-      (emitting.row-with (c .before .before .before .before .before .before .before .before .before .before .before .before .before .before .before .before .args .n) (c .before .before .before .before .before .before .before .before .before .before .before .before .before .before .before .before .args .table .now) J (c .before .before .before .before .before .before .before .before .before .before .before .before .before .before .before .before .args .code) (c .before .before .before .before .before .before .before .before .before .before .before .before .before .before .before .before .args .v) (c .before .before .before .before .before .before .before .before .before .before .before .before .before .before .before .before .args .area .now) f (c .before .before .before .before .before .before .before .before .before .before .before .loop .u) (c .before .before .before .before .before .before .before .before .before .before .before .before .before .before .before .before .pre .0) (c .before .before .before .before .before .before .before .before .before .before .loop-test .taken) (c .before .before .before .before .before .before .before .before .before .before .before .before .before .before .before .before .args .from) (c .before .before .before .before .before .before .before .before .before .before .before .before .before .before .before .before .args .l) s
-      (c .before .before .before .before .before .before .before .before .if1 .left) (sym (c .before .before .before .before .before .before .has-bit .ensures) ∙ not-false _ (c .before .before .before .before .before .if2 .left)))
-      (went.went-trans _ _ _ _ _ _ _ _ _ _ _ _ (c .before .before .before .before .before .before .before .before .before .before .before .loop .inv .3 J s f) (c .before .before .put .ensures .1)),
-)
-
-same-length : tie.Need-same-length Inv-loop μ-loop
-same-length c = c .before .loop .inv .2
-
-returns : tie.Need-returns Inv-loop μ-loop
-returns c = let e : c .before .loop .u ≡ c .before .before .before .before .before .before .args .n = omega arith in (
-  omega (arith, c .before .loop .inv .1),
-  λ J s f. went.went-as _ _ _ _ _ _ _ _ _ (ap (λ (k : ℕ). entriesRow (c .before .before .before .before .before .before .args .n) (c .before .before .before .before .before .before .args .table .now) J (c .before .before .before .before .before .before .args .code) (c .before .before .before .before .before .before .args .v) k) e) (c .before .loop .inv .3 J s f),
-)
+returns-3 : tie.Need-returns-3
+returns-3 c = search needs
 
 pub emit-row-spec : {M : Type 1} → statement M
 emit-row-spec =
     tie.close
     (tie.spec
-    Inv-loop
-    μ-loop
     mul-row
-    mul-firsts
-    mul-firsts-2
-    loop-holds
-    add-p
-    add-if1
-    shared-slice-read-if1
-    add-u
-    loop-less
-    loop-again
-    add-has-bit
-    shared-slice-read-has-bit
-    has-bit-requires
-    add-u-2
-    loop-less-2
-    loop-again-2
-    mul-put
-    shared-slice-read-put
-    put-requires
-    add-u-3
-    loop-less-3
-    loop-again-3
+    add-count-row
+    mul-count-row
+    mul-count-row-2
+    add-count-row-2
+    count-row-requires
+    returns
+    add-if2
+    add-t18
+    returns-2
+    put-row-requires
     same-length
-    returns)
+    returns-3)

@@ -1,0 +1,109 @@
+// The midpoints of a pair as a list: of each the numbers of its two halves, in one number. The twin search goes over such lists.
+ghost use mathlib.Core.Path.{_≡_};
+ghost use mathlib.Core.Bool.{_&&_, true};
+ghost use Prim.Native.Nat.{ℕ, _≤_, _<_};
+ghost use lib.ListN.{length, getD};
+ghost use Rattle.rules.specs.Finite.{allBelow};
+ghost use Rattle.rules.specs.Levels.{levelOf, twins};
+ghost use Rattle.levels.specs.Needs.{Pair, Stands};
+ghost use Rattle.levels.specs.Halves.{pairOf, Listed, Halves, hasSame};
+use super::agree::number_at;
+
+// Two numbers in one.
+fn pair_of(a: u32, b: u32) -> u64
+    ensures { λ r. ⌜ r ≡ pairOf a b ⌝ }
+{
+    (a as u64) * 4294967296 + (b as u64)
+}
+
+// x was the last to be put in the list.
+fn is_last(list: &[u64], k: usize, x: u64) -> bool
+    requires { ⌜ k ≤ length (now list) ⌝ }
+    ensures { λ r. ⌜ (r ≡ true → Listed k (now (list .entry)) x) ⌝ }
+{
+    if k == 0 {
+        return false;
+    }
+    list[k - 1] == x
+}
+
+// The midpoints of (v,u): first halves by one level, second halves by another. One that equals the last is left out. Answers how many.
+pub fn halves(
+    n: usize,
+    levels: &[u32],
+    first: usize,
+    second: usize,
+    v: usize,
+    u: usize,
+    list: &mut [u64],
+) -> usize
+    requires { ⌜ (Stands n (now levels) first) × (Stands n (now levels) second) × (Pair n v u) × (n ≤ length (now list)) ⌝ }
+    ensures { λ r. ⌜ Halves n (levelOf n (now (levels .entry)) first) (levelOf n (now (levels .entry)) second) v u n r (now (list .exit)) ⌝ }
+{
+    let mut k = 0;
+    let mut m = 0;
+    while m < n {
+        let a = number_at(n, levels, first, v, m);
+        if a == 0 {
+            m += 1;
+            continue;
+        }
+        let b = number_at(n, levels, second, m, u);
+        if b == 0 {
+            m += 1;
+            continue;
+        }
+        let x = pair_of(a, b);
+        if is_last(list, k, x) {
+            m += 1;
+            continue;
+        }
+        list[k] = x;
+        k += 1;
+        m += 1;
+    }
+    k
+}
+
+// Each of the first k midpoints of a list has a twin among the first j of another.
+fn within(list: &[u64], k: usize, other: &[u64], j: usize) -> bool
+    requires { ⌜ (k ≤ length (now list)) × (j ≤ length (now other)) ⌝ }
+    ensures { λ r. ⌜ r ≡ allBelow k (hasSame (now (list .entry)) (now (other .entry)) j) ⌝ }
+{
+    let mut all = true;
+    'midpoints: for m in 0..k {
+        let x = list[m];
+        'candidates: for w in 0..j {
+            if other[w] == x {
+                continue 'midpoints;
+            }
+        }
+        all = false;
+        break 'midpoints;
+    }
+    all
+}
+
+// Each midpoint of (v,u) has a twin among those of (x,y), and the other way round.
+pub fn same_halves(
+    n: usize,
+    levels: &[u32],
+    first: usize,
+    second: usize,
+    v: usize,
+    u: usize,
+    x: usize,
+    y: usize,
+) -> bool
+    requires { ⌜ (n ≤ 128) × (Stands n (now levels) first) × (Stands n (now levels) second) × (Pair n v u) × (Pair n x y) ⌝ }
+    ensures { λ r. ⌜ r ≡ (twins n (levelOf n (now (levels .entry)) first) (levelOf n (now (levels .entry)) second) v u x y && twins n (levelOf n (now (levels .entry)) first) (levelOf n (now (levels .entry)) second) x y v u) ⌝ }
+{
+    let mut mine: [u64; 128] = [0; 128];
+    let mut other: [u64; 128] = [0; 128];
+    let k = halves(n, levels, first, second, v, u, &mut mine);
+    let j = halves(n, levels, first, second, x, y, &mut other);
+    if !within(&mine, k, &other, j) {
+        return false;
+    }
+    within(&other, j, &mine, k)
+}

@@ -1,0 +1,129 @@
+-- Counting the entries of a row without making them.
+use Prim.Native.Nat.{ℕ, zero, suc, _+_, _*_, _/_, _%_, _^_, _≤_, _<_}
+use mathlib.Core.Path.{_≡_, refl, sym, ap, ap₂, _∙_}
+use mathlib.Core.List.{List, [], _∷_, _++_}
+use mathlib.Core.Bool.{Bool, true, false, cond, not, _&&_}
+use native.Mathlib.Nat.{mod-lt}
+use native.Mathlib.Numerals.{add-one}
+use native.Mathlib.Omega.{arith}
+use borrow.Author.Tests.{eq-eqb, ne-eqb}
+use lib.Dec.{eqb}
+use lib.ListN.{length, getD, length-append}
+use Rattle.rules.specs.Finite.{countBelow}
+use Rattle.rules.specs.Accept.{difference}
+use Rattle.rules.proofs.Laws.Tests.{not-true-of}
+use Rattle.rules.proofs.Laws.Counting.{count-lt}
+use Rattle.rules.proofs.Laws.Places.{place-lt}
+use Rattle.lists.specs.Relations.{bitAt, Slot}
+use Rattle.lists.specs.Entries.{Went, Firsts, isFirst, isHit, Blank, entriesRow}
+use Rattle.lists.proofs.Laws.Difference.{difference-is}
+use Rattle.lists.proofs.Laws.Emitting.{row-miss}
+use Rattle.lists.proofs.Laws.Went.{went-as, went-none}
+
+-- one position
+pub hit-none : (first l x : ℕ) → first ≡ 0 → 0 ≡ cond {A = ℕ} (not (eqb first 0) && bitAt l x) 1 0
+hit-none first l x e = rw (eq-eqb first 0 e) refl
+
+digit : (y : ℕ) → y < 2 → y ≡ cond {A = ℕ} (eqb y 1) 1 0
+digit zero h = refl
+digit (suc zero) h = refl
+digit (suc (suc y)) h = absurd (omega arith)
+
+pub hit-some : (first l x : ℕ) → (first ≡ 0 → ⊥) → x / (2 ^ l) % 2 ≡ cond {A = ℕ} (not (eqb first 0) && bitAt l x) 1 0
+unfolding bitAt
+hit-some first l x k = rw (ne-eqb first 0 k) (digit (x / (2 ^ l) % 2) (mod-lt (x / (2 ^ l)) (omega arith)))
+
+-- one position more
+one-le : (b : Bool) → cond {A = ℕ} b 1 0 ≤ 1
+one-le true = omega arith
+one-le false = omega arith
+
+pub count-more : (w : List ℕ) (from firsts l u : ℕ) {a x : ℕ} → a ≡ countBelow u (isHit w from firsts l) → a ≤ u
+    → x ≡ cond (not (eqb (getD w (firsts + u) 0) 0) && bitAt l (getD w (from + u) 0)) 1 0
+    → (a + x ≡ countBelow (u + 1) (isHit w from firsts l)) × (a + x ≤ u + 1)
+unfolding countBelow isHit
+count-more w from firsts l u e h ex = (
+  rw (add-one u) (ap₂ _+_ e ex),
+  omega (arith, ex, one-le (not (eqb (getD w (firsts + u) 0) 0) && bitAt l (getD w (from + u) 0))),
+)
+
+pub count-le : (n : ℕ) (f : ℕ → Bool) → countBelow n f ≤ n
+unfolding countBelow
+count-le zero f = omega arith
+count-le (suc n) f = omega (arith, count-le n f, one-le (f n))
+
+-- sixteen places without a hit
+pub blank-is : (w : List ℕ) (from firsts l u n : ℕ) {k : ℕ} → u + 16 ≤ n → k ≡ countBelow 16 (isHit w from firsts l) → k ≡ 0 → Blank w from firsts l u n
+blank-is w from firsts l u n {k} h e z =
+    let f = isHit w from firsts l in
+    record { inside = h; none = λ j hj. not-true-of (f j) (λ t. omega (arith, e, z, count-lt f j 16 hj t)) }
+
+-- the hits of a row are its entries
+told : (b : Bool) → not (eqb (cond {A = ℕ} b 1 0) 0) ≡ b
+told true = refl
+told false = refl
+
+module _ (n : ℕ) (t : List ℕ) (J : ℕ → ℕ → Bool) (code v from l : ℕ) (w : List ℕ) (hv : v < n) (slot : Slot n from l w J) (firsts : Firsts n t w) where
+  abbrev hits : ℕ → Bool
+  hits = isHit w (from + v * n) (8 * (n * n) + v * n) l
+
+  hit-is : (u : ℕ) → u < n → hits u ≡ (isFirst t (v * n + u) && J v u)
+  unfolding isHit
+  hit-is u h =
+      let a : 8 * (n * n) + v * n + u ≡ 8 * (n * n) + (v * n + u) = omega arith in
+      let b : from + v * n + u ≡ from + (v * n + u) = omega arith in
+      rw (a, b)
+      (ap₂ _&&_ (ap (λ (z : ℕ). not (eqb z 0)) (firsts .mark (v * n + u) (place-lt n v u hv h)) ∙ told (isFirst t (v * n + u))) (slot .cell v u hv h))
+
+  hit-at : (u k : ℕ) → isHit w (from + (v * n + u)) (8 * (n * n) + (v * n + u)) l k ≡ false → hits (u + k) ≡ false
+  unfolding isHit
+  hit-at u k e =
+      let a : 8 * (n * n) + v * n + (u + k) ≡ 8 * (n * n) + (v * n + u) + k = omega arith in
+      let b : from + v * n + (u + k) ≡ from + (v * n + u) + k = omega arith in
+      rw (a, b) e
+
+  -- places without a hit give no entries
+  blank-to : (u k : ℕ) → u + k ≤ n → ((j : ℕ) → j < k → isHit w (from + (v * n + u)) (8 * (n * n) + (v * n + u)) l j ≡ false)
+      → entriesRow n t J code v u ≡ entriesRow n t J code v (u + k)
+  blank-to u zero h f = ap (λ (z : ℕ). entriesRow n t J code v z) (omega arith)
+  blank-to u (suc k) h f =
+      let e : u + k + 1 ≡ u + suc k = omega arith in
+      blank-to u k (omega arith) (λ j l. f j (omega arith))
+      ∙ row-miss n t J code v (u + k) (sym (hit-is (u + k) (omega arith)) ∙ hit-at u k (f k (omega arith)))
+      ∙ ap (λ (z : ℕ). entriesRow n t J code v z) e
+
+  pub row-blank : (u : ℕ) → Blank w (from + (v * n + u)) (8 * (n * n) + (v * n + u)) l u n → entriesRow n t J code v u ≡ entriesRow n t J code v (u + 16)
+  row-blank u b = blank-to u 16 (b .inside) (b .none)
+
+  row-length : (k : ℕ) → k ≤ n → length (entriesRow n t J code v k) ≡ 2 * countBelow k hits
+  unfolding entriesRow countBelow
+  row-length zero h = refl
+  row-length (suc k) h =
+      length-append (entriesRow n t J code v k) (cond (isFirst t (v * n + k) && J v k) (code ∷ (getD t (v * n + k) 0 ∷ [])) [])
+      ∙ ap₂ _+_ (row-length k (omega arith)) (rw (hit-is k (omega arith)) (two (isFirst t (v * n + k) && J v k) (getD t (v * n + k) 0)))
+      ∙ sum (countBelow k hits) (cond (hits k) 1 0)
+    where
+      two : (b : Bool) (x : ℕ) → length (cond b (code ∷ (x ∷ [])) []) ≡ 2 * cond b 1 0
+      two true x = refl
+      two false x = refl
+
+      sum : (a b : ℕ) → 2 * a + 2 * b ≡ 2 * (a + b)
+      sum a b = omega arith
+
+  no-length : (xs : List ℕ) → length xs ≡ 0 → [] ≡ xs
+  no-length [] e = refl
+  no-length (x ∷ xs) e = absurd (omega arith)
+
+  pub row-missed : (m k : ℕ) {some : ℕ} (s out : List ℕ) → some ≡ countBelow n hits → some ≡ 0 → Went k m k m (entriesRow n t J code v n) s out out
+  row-missed m k s out e z =
+      went-as k m k m [] (entriesRow n t J code v n) s out out (no-length (entriesRow n t J code v n) (row-length n (omega arith) ∙ omega arith)) (went-none k m s out)
+
+  pub row-counted : (m k : ℕ) {some : ℕ} (s out : List ℕ) → some ≡ countBelow n hits → (some ≡ 0 → ⊥) → length s + length out ≡ 0
+      → Went k m (k + some) m (entriesRow n t J code v n) s out out
+  row-counted m k {some} s out e d z =
+      record {
+        count = omega (arith, row-length n (omega arith), e);
+        size = refl;
+        text = λ h. absurd (d (omega arith));
+        meets = λ before len q. omega (arith, q, difference-is before s .right, difference-is (before ++ entriesRow n t J code v n) s .right);
+      }

@@ -1,0 +1,20 @@
+-- The two ways of the test: 0 where the position is not a first one, else bit l.
+use borrow.Author.Needs.{needs}
+use Rattle.lists.proofs.Laws.Hits.{hit-none, hit-some}
+use Rattle.lists.proofs.entries.hit.Statement.{statement}
+use Rattle.lists.proofs.entries.hit.Tie as tie
+
+returns : tie.Need-returns
+returns c = hit-none (c .before .args .first) (c .before .args .l) (c .before .args .x) (c .if1 .taken)
+
+cast-result : tie.Need-cast-result
+cast-result c = search needs
+
+shr-result : tie.Need-shr-result
+shr-result c = search needs
+
+returns-2 : tie.Need-returns-2
+returns-2 c = hit-some (c .before .args .first) (c .before .args .l) (c .before .args .x) (c .if1 .left)
+
+pub hit-spec : {M : Type 1} → statement M
+hit-spec = tie.close (tie.spec returns cast-result shr-result returns-2)

@@ -1,0 +1,200 @@
+-- The invariant: the entries of the first u places have gone by. Sixteen blank places, a later position and a missing bit add none.
+use Prim.Native.Nat.{ℕ, _+_, _*_, _-_, _≤_, _<_}
+use mathlib.Core.Path.{_≡_, refl, sym, ap, _∙_}
+use mathlib.Core.Bool.{Bool}
+use native.Mathlib.Omega.{arith}
+use borrow.Author.Tests.{not-true, not-false}
+use lib.ListN.{length}
+use Rattle.lists.specs.Relations.{Slot}
+use Rattle.rules.proofs.Laws.Places.{place-lt, row-fits, square-le}
+use Rattle.lists.specs.Entries.{Went, Firsts, entriesRow}
+use Rattle.lists.proofs.Laws.Went as went
+use Rattle.lists.proofs.Laws.Emitting as emitting
+use Rattle.lists.proofs.Laws.Hits as hits
+use Rattle.lists.proofs.entries.put_row.Statement.{statement}
+use Rattle.lists.proofs.entries.put_row.Tie as tie
+
+abbrev Inv-loop : tie.InvT-loop
+Inv-loop table n v code from l area stored out₀ row firsts done₀ u₀ out done u = (u ≤ n) × (done .count ≤ done₀ .count + u) × (length out ≡ length out₀) × ((J : ℕ → ℕ → Bool) → Slot n from l area J → Firsts n table area → Went (done₀ .count) (done₀ .met) (done .count) (done .met) (entriesRow n table J code v u) stored out₀ out)
+
+abbrev μ-loop : tie.MeasureT-loop
+μ-loop table n v code from l area stored out₀ row firsts done₀ u₀ out done u = n - u
+
+cell : (c : tie.In-loop Inv-loop μ-loop) → c .before .before .before .before .before .before .args .v * c .before .before .before .before .before .before .args .n + c .before .loop .u < c .before .before .before .before .before .before .args .n * c .before .before .before .before .before .before .args .n
+cell c = place-lt (c .before .before .before .before .before .before .args .n) _ _ (c .before .before .before .before .before .before .pre .0) (c .loop-test .taken)
+
+mul-row : tie.Need-mul-row Inv-loop μ-loop
+mul-row c = omega (arith, row-fits (c .before .before .before .before .args .n) (c .before .before .before .before .pre .0), square-le (c .before .before .before .before .pre .1 .small))
+
+mul-firsts : tie.Need-mul-firsts Inv-loop μ-loop
+mul-firsts c = omega (arith, square-le (c .before .before .before .before .pre .1 .small))
+
+mul-firsts-2 : tie.Need-mul-firsts-2 Inv-loop μ-loop
+mul-firsts-2 c = omega (arith, square-le (c .before .before .before .before .pre .1 .small))
+
+loop-holds : tie.Need-loop-holds Inv-loop μ-loop
+loop-holds c = (omega arith, omega arith, refl, λ J s f. went.went-as _ _ _ _ _ _ _ _ _ (emitting.row-none _ _ J _ _) (went.went-none _ _ _ _))
+
+add-p : tie.Need-add-p Inv-loop μ-loop
+add-p c = omega (arith, cell (c), square-le (c .before .before .before .before .before .before .pre .1 .small))
+
+add-is-blank : tie.Need-add-is-blank Inv-loop μ-loop
+add-is-blank c = omega (arith, cell (c), c .before .before .before .before .before .before .pre .1 .room)
+
+add-is-blank-2 : tie.Need-add-is-blank-2 Inv-loop μ-loop
+add-is-blank-2 c = omega (arith, cell (c), square-le (c .before .before .before .before .before .before .pre .1 .small))
+
+is-blank-requires : tie.Need-is-blank-requires Inv-loop μ-loop
+is-blank-requires c κs =
+    let l = c .before in
+    let a = l .before .before .before .before .before in
+    let r = row-fits (a .args .n) (a .pre .0) in (
+      a .pre .1 .label,
+      l .loop .inv .0,
+      a .pre .1 .small,
+      omega (arith, r, l .loop .inv .0, a .pre .1 .room),
+      omega (arith, r, l .loop .inv .0, a .pre .1 .area),
+    )
+
+add-u : tie.Need-add-u Inv-loop μ-loop
+add-u c = omega (arith, c .before .is-blank .ensures (c .if1 .taken) .inside)
+
+loop-less : tie.Need-loop-less Inv-loop μ-loop
+loop-less c = omega (arith, c .before .is-blank .ensures (c .if1 .taken) .inside)
+
+loop-again : tie.Need-loop-again Inv-loop μ-loop
+loop-again c =
+    let b = c .before .is-blank .ensures (c .if1 .taken) in
+    let l = c .before .before .before in
+    let a = l .before .before .before .before .before in (
+      b .inside,
+      omega (arith, l .loop .inv .1),
+      l .loop .inv .2,
+      λ J s f.
+          went.went-as _ _ _ _ _ _ _ _ _
+          (hits.row-blank (a .args .n) (a .args .table .now) J (a .args .code) (a .args .v) (a .args .from) (a .args .l) (a .args .area .now) (a .pre .0) s f (l .loop .u) b)
+          (l .loop .inv .3 J s f),
+    )
+
+add-if2 : tie.Need-add-if2 Inv-loop μ-loop
+add-if2 c = omega (arith, cell (c .before .before), square-le (c .before .before .before .before .before .before .before .before .pre .1 .small))
+
+shared-slice-read-if2 : tie.Need-shared-slice-read-if2 Inv-loop μ-loop
+shared-slice-read-if2 c = omega (arith, cell (c .before .before .before), c .before .before .before .before .before .before .before .before .before .pre .1 .area)
+
+add-u-2 : tie.Need-add-u-2 Inv-loop μ-loop
+add-u-2 c = omega arith
+
+loop-less-2 : tie.Need-loop-less-2 Inv-loop μ-loop
+loop-less-2 c = omega arith
+
+loop-again-2 : tie.Need-loop-again-2 Inv-loop μ-loop
+loop-again-2 c = (
+  omega arith,
+  omega (arith, c .before .before .before .before .before .loop .inv .1),
+  c .before .before .before .before .before .loop .inv .2,
+  λ J s f.
+      went.went-as _ _ _ _ _ _ _ _ _
+      (emitting.row-later (c .before .before .before .before .before .before .before .before .before .before .args .n) (c .before .before .before .before .before .before .before .before .before .before .args .table .now) J (c .before .before .before .before .before .before .before .before .before .before .args .code) (c .before .before .before .before .before .before .before .before .before .before .args .v) (c .before .before .before .before .before .before .before .before .before .before .args .area .now) f (c .before .before .before .before .before .loop .u) (c .before .before .before .before .before .before .before .before .before .before .pre .0) (c .before .before .before .before .loop-test .taken) (c .if2 .taken))
+      (c .before .before .before .before .before .loop .inv .3 J s f),
+)
+
+add-has-bit : tie.Need-add-has-bit Inv-loop μ-loop
+add-has-bit c = omega (arith, cell (c .before .before .before .before), c .before .before .before .before .before .before .before .before .before .before .pre .1 .room)
+
+shared-slice-read-has-bit : tie.Need-shared-slice-read-has-bit Inv-loop μ-loop
+shared-slice-read-has-bit c = omega (arith, cell (c .before .before .before .before .before), c .before .before .before .before .before .before .before .before .before .before .before .pre .1 .room)
+
+has-bit-requires : tie.Need-has-bit-requires Inv-loop μ-loop
+has-bit-requires c κs = c .before .before .before .before .before .before .before .before .before .before .before .pre .1 .label
+
+add-u-3 : tie.Need-add-u-3 Inv-loop μ-loop
+add-u-3 c = omega arith
+
+loop-less-3 : tie.Need-loop-less-3 Inv-loop μ-loop
+loop-less-3 c = omega arith
+
+loop-again-3 : tie.Need-loop-again-3 Inv-loop μ-loop
+loop-again-3 c = (
+  omega arith,
+  omega (arith, c .before .before .before .before .before .before .before .before .loop .inv .1),
+  c .before .before .before .before .before .before .before .before .loop .inv .2,
+  λ J s f.
+      went.went-as _ _ _ _ _ _ _ _ _
+      (emitting.row-without (c .before .before .before .before .before .before .before .before .before .before .before .before .before .args .n) (c .before .before .before .before .before .before .before .before .before .before .before .before .before .args .table .now) J (c .before .before .before .before .before .before .before .before .before .before .before .before .before .args .code) (c .before .before .before .before .before .before .before .before .before .before .before .before .before .args .v) (c .before .before .before .before .before .before .before .before .before .before .before .before .before .args .area .now) f (c .before .before .before .before .before .before .before .before .loop .u) (c .before .before .before .before .before .before .before .before .before .before .before .before .before .pre .0) (c .before .before .before .before .before .before .before .loop-test .taken) (c .before .before .before .before .before .before .before .before .before .before .before .before .before .args .from) (c .before .before .before .before .before .before .before .before .before .before .before .before .before .args .l) s
+      (sym (c .before .has-bit .ensures) ∙ not-true _ (c .if3 .taken)))
+      (c .before .before .before .before .before .before .before .before .loop .inv .3 J s f),
+)
+
+mul-put : tie.Need-mul-put Inv-loop μ-loop
+mul-put c = omega (arith, cell (c .before .before .before .before .before .before .before .before), square-le (c .before .before .before .before .before .before .before .before .before .before .before .before .before .before .pre .1 .small))
+
+shared-slice-read-put : tie.Need-shared-slice-read-put Inv-loop μ-loop
+shared-slice-read-put c = omega (arith, cell (c .before .before .before .before .before .before .before .before .before), c .before .before .before .before .before .before .before .before .before .before .before .before .before .before .before .pre .1 .square)
+
+put-requires : tie.Need-put-requires Inv-loop μ-loop
+put-requires c κs = omega (arith, c .before .before .before .before .before .before .before .before .before .before .loop .inv .1, c .before .before .before .before .before .before .before .before .before .before .before .before .before .before .before .pre .1 .few)
+
+add-u-4 : tie.Need-add-u-4 Inv-loop μ-loop
+add-u-4 c = omega arith
+
+loop-less-4 : tie.Need-loop-less-4 Inv-loop μ-loop
+loop-less-4 c = omega arith
+
+loop-again-4 : tie.Need-loop-again-4 Inv-loop μ-loop
+loop-again-4 c = (
+  omega arith,
+  omega (arith, c .before .before .before .before .before .before .before .before .before .before .before .before .before .loop .inv .1, c .before .before .put .ensures .0),
+  c .before .before .put .ensures .1 .size ∙ c .before .before .before .before .before .before .before .before .before .before .before .before .before .loop .inv .2,
+  λ J s f.
+      went.went-as _ _ _ _ _ _ _ _ _
+      (emitting.row-with (c .before .before .before .before .before .before .before .before .before .before .before .before .before .before .before .before .before .before .args .n) (c .before .before .before .before .before .before .before .before .before .before .before .before .before .before .before .before .before .before .args .table .now) J (c .before .before .before .before .before .before .before .before .before .before .before .before .before .before .before .before .before .before .args .code) (c .before .before .before .before .before .before .before .before .before .before .before .before .before .before .before .before .before .before .args .v) (c .before .before .before .before .before .before .before .before .before .before .before .before .before .before .before .before .before .before .args .area .now) f (c .before .before .before .before .before .before .before .before .before .before .before .before .before .loop .u) (c .before .before .before .before .before .before .before .before .before .before .before .before .before .before .before .before .before .before .pre .0) (c .before .before .before .before .before .before .before .before .before .before .before .before .loop-test .taken) (c .before .before .before .before .before .before .before .before .before .before .before .before .before .before .before .before .before .before .args .from) (c .before .before .before .before .before .before .before .before .before .before .before .before .before .before .before .before .before .before .args .l) s
+      (c .before .before .before .before .before .before .before .before .if2 .left) (sym (c .before .before .before .before .before .before .has-bit .ensures) ∙ not-false _ (c .before .before .before .before .before .if3 .left)))
+      (went.went-trans _ _ _ _ _ _ _ _ _ _ _ _ (c .before .before .before .before .before .before .before .before .before .before .before .before .before .loop .inv .3 J s f) (c .before .before .put .ensures .1)),
+)
+
+same-length : tie.Need-same-length Inv-loop μ-loop
+same-length c = c .before .loop .inv .2
+
+returns : tie.Need-returns Inv-loop μ-loop
+returns c = let e : c .before .loop .u ≡ c .before .before .before .before .before .before .args .n = omega arith in (
+  omega (arith, c .before .loop .inv .1),
+  λ J s f. went.went-as _ _ _ _ _ _ _ _ _ (ap (λ (k : ℕ). entriesRow (c .before .before .before .before .before .before .args .n) (c .before .before .before .before .before .before .args .table .now) J (c .before .before .before .before .before .before .args .code) (c .before .before .before .before .before .before .args .v) k) e) (c .before .loop .inv .3 J s f),
+)
+
+pub put-row-spec : {M : Type 1} → statement M
+put-row-spec =
+    tie.close
+    (tie.spec
+    Inv-loop
+    μ-loop
+    mul-row
+    mul-firsts
+    mul-firsts-2
+    loop-holds
+    add-p
+    add-is-blank
+    add-is-blank-2
+    is-blank-requires
+    add-u
+    loop-less
+    loop-again
+    add-if2
+    shared-slice-read-if2
+    add-u-2
+    loop-less-2
+    loop-again-2
+    add-has-bit
+    shared-slice-read-has-bit
+    has-bit-requires
+    add-u-3
+    loop-less-3
+    loop-again-3
+    mul-put
+    shared-slice-read-put
+    put-requires
+    add-u-4
+    loop-less-4
+    loop-again-4
+    same-length
+    returns)
