@@ -1,25 +1,18 @@
 -- Lists written at the front of lent ones, and the cleared area.
-use Prim.Native.Nat.{ℕ, _+_, _*_, _-_, _≤_, _<_}
+use Prim.Native.Nat.{ℕ, _+_, _*_, _-_, _≤_}
 use mathlib.Core.Path.{_≡_, refl, sym, ap, _∙_}
 use mathlib.Core.List.{List, _++_}
 use native.Mathlib.Omega.{arith}
-use lib.ListN.{length, getD, drop, List·getD-append}
+use lib.ListN.{length, getD, drop}
 use lib.Seq.{getD-drop}
 use Rattle.rules.specs.Finite.{tableBelow}
 use Rattle.rules.specs.Writing.{fill}
 use Rattle.rules.specs.Outcomes.{front, zeroed}
 use Rattle.rules.proofs.Laws.Listing.{table-length}
+pub use Rattle.rules.proofs.Laws.Fronts.{front-in}
+pub use Rattle.lists.proofs.Laws.Areas.{frame-trans}
 use Rattle.lists.specs.Relations.{Frame}
 use Rattle.telling.proofs.Laws.Telling.{zeroed-again}
-
-pub front-in : (list old : List ℕ) (j : ℕ) → j < length list → getD (front list old) j 0 ≡ getD list j 0
-unfolding front
-front-in list old j h = List·getD-append list (drop (length list) old) 0 j h
-
--- two changes one after the other
-pub frame-trans : (lo hi : ℕ) (a b d : List ℕ) → Frame lo hi a b → Frame lo hi b d → Frame lo hi a d
-frame-trans lo hi a b d p q =
-    record { size = q .size ∙ p .size; low = λ j h. q .low j h ∙ p .low j h; high = λ j h. q .high j h ∙ p .high j h }
 
 -- a change of fewer places
 pub frame-wider : (lo hi hi′ : ℕ) (a b : List ℕ) → hi ≤ hi′ → Frame lo hi a b → Frame lo hi′ a b
