@@ -1,3 +1,4 @@
+-- After m turns the list has exactly the midpoints among the first m items.
 use Prim.Native.Nat.{_-_, _≤_}
 use mathlib.Core.Path.{_≡_, refl}
 use native.Mathlib.Omega.{arith}

@@ -1,3 +1,4 @@
+-- Where the last number of the list is x, x stands in the list.
 use Prim.Native.Nat.{ℕ}
 use native.Mathlib.Omega.{arith}
 use mathlib.Core.Path.{_≡_}

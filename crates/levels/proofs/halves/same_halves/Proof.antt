@@ -1,3 +1,4 @@
+-- Two lists that hold each other are twins both ways.
 use Prim.Native.Nat.{ℕ, _<_}
 use mathlib.Core.Path.{_∙_}
 use native.Mathlib.Omega.{arith}

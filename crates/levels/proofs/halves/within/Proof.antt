@@ -1,3 +1,4 @@
+-- The search for twins: those before m have one, and none before w is one of m.
 use Prim.Native.Nat.{_-_, _≤_}
 use mathlib.Core.Path.{_≡_, refl, sym, _∙_}
 use mathlib.Core.Bool.{true, false}

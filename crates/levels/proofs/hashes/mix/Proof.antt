@@ -1,3 +1,4 @@
+-- The hash of a number is computed as it is defined.
 use borrow.Author.Needs.{needs}
 use Rattle.levels.proofs.Laws.Signature.{mix-is}
 use Rattle.levels.proofs.hashes.mix.Statement.{statement}

@@ -1,3 +1,4 @@
+-- With no split 0, else what the first split gives.
 use native.Mathlib.Omega.{arith}
 use borrow.Author.Needs.{needs}
 use Rattle.levels.proofs.Laws.Signature.{most-none, most-some}

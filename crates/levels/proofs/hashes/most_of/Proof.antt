@@ -1,3 +1,4 @@
+-- After j turns the four numbers are the largest hashes of the first j of the list.
 use Prim.Native.Nat.{_-_, _≤_}
 use mathlib.Core.Path.{_≡_}
 use native.Mathlib.Omega.{arith}

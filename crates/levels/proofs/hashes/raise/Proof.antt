@@ -1,3 +1,4 @@
+-- Four numbers are raised, each to a turn of the hash of x.
 use borrow.Author.Needs.{needs}
 use Rattle.levels.proofs.Laws.Signature.{turn-up}
 use Rattle.levels.proofs.hashes.raise.Statement.{statement}

@@ -1,3 +1,4 @@
+-- The largest hashes of the list of midpoints are those of the midpoints.
 use native.Mathlib.Omega.{arith}
 use mathlib.Core.Path.{refl}
 use borrow.Author.Needs.{needs}

@@ -1,3 +1,4 @@
+-- A row of level 1 is or-ed into the row: after u turns its first u numbers are.
 use Prim.Native.Nat.{ℕ, _+_, _*_, _-_, _≤_, _<_}
 use mathlib.Core.Path.{_≡_, refl}
 use native.Mathlib.Omega.{arith}

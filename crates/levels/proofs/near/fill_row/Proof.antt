@@ -1,3 +1,4 @@
+-- The row of items connected within i: by marks at level 1, above it by the level below and one step.
 use native.Mathlib.Omega.{arith}
 use borrow.Author.Needs.{needs}
 use Rattle.levels.proofs.Laws.Tables.{base-next}

@@ -1,3 +1,4 @@
+-- The row tells of each item whether one of the first m midpoints leads to it.
 use Prim.Native.Nat.{_-_, _≤_}
 use mathlib.Core.Path.{_≡_, refl, _∙_}
 use native.Mathlib.Omega.{arith}

@@ -1,3 +1,4 @@
+-- The bytes of all positions, row by row; the marks before them stay.
 use Prim.Native.Nat.{_+_, _*_, _-_, _≤_}
 use mathlib.Core.Path.{_≡_, sym, _∙_}
 use native.Mathlib.Omega.{arith}

@@ -1,3 +1,4 @@
+-- The bytes of one row, from the row of numbers that fill_row makes.
 use native.Mathlib.Omega.{arith}
 use borrow.Author.Needs.{needs}
 use Rattle.rules.proofs.Laws.Places.{row-fits, square-le}

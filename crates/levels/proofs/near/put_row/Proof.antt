@@ -1,3 +1,4 @@
+-- The signs of the row as bytes: after u turns the first u stand.
 use Prim.Native.Nat.{ℕ, _+_, _*_, _-_, _≤_, _<_}
 use mathlib.Core.Path.{_≡_, refl}
 use native.Mathlib.Omega.{arith}

@@ -1,3 +1,4 @@
+-- 1 where two items are the same or next to each other: what next_to answers, as a number.
 use borrow.Author.Needs.{needs}
 use Rattle.levels.proofs.Laws.Rows.{one-yes, one-no}
 use Rattle.levels.proofs.near.step_bit.Statement.{statement}

@@ -1,3 +1,4 @@
+-- Sixteen positions with a count of 0 have no hit.
 use Prim.Native.Nat.{ℕ}
 use mathlib.Core.Path.{_≡_}
 use native.Mathlib.Omega.{arith}
