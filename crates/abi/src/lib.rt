@@ -6,8 +6,8 @@ ghost use mathlib.Core.Path.{_≡_};
 ghost use Prim.Native.Nat.{_%_, _^_};
 ghost use Rattle.rules.specs.Numbers.{ofBounds};
 ghost use Rattle.rules.specs.Outcomes.{direct, stored, class};
-ghost use Rattle.index.specs.Calls.{directCall, storedCall, classCall};
-ghost use Rattle.index.specs.Tables.{buildCall, checkCall};
+ghost use Rattle.rules.specs.Calls.{directCall, storedCall, classCall};
+ghost use Rattle.rules.specs.Calls.{buildCall, checkCall};
 ghost use Rattle.abi.specs.Handed.{handed, narrowed, HandsBuilt, HandsChecked, HandsAnswered, HandsBounds, HandsRun};
 
 // An answer for C: the number of document 01's table, 0 where nothing is refused, and up to three values, 0 where the table names none.

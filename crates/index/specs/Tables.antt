@@ -18,35 +18,6 @@ use Rattle.rules.specs.Outcomes.{front, zeroed, BuildCall, BuildEnd, CheckCall,
 use Rattle.lists.specs.Sort.{Contiguous}
 use Rattle.lists.specs.Relations.{EdgesIn}
 
-abbrev pub buildCall : ℕ → ℕ → ℕ → List ℕ → List ℕ → List ℕ → List ℕ → List ℕ → List ℕ → BuildCall
-buildCall items labels k edges levels starts order entries area =
-    record {
-      items = items;
-      labels = labels;
-      k = k;
-      edges = edges;
-      levels = levels;
-      starts = starts;
-      order = order;
-      entries = entries;
-      area = area;
-    }
-
-abbrev pub buildEnd : Built → List ℕ → List ℕ → List ℕ → List ℕ → List ℕ → BuildEnd
-buildEnd result levels starts order entries area =
-    record { result = result; levels = levels; starts = starts; order = order; entries = entries; area = area }
-
-abbrev pub indexOf : ℕ → ℕ → ℕ → List ℕ → List ℕ → List ℕ → List ℕ → Index
-indexOf items labels k levels starts order entries =
-    record { items = items; labels = labels; k = k; levels = levels; starts = starts; order = order; entries = entries }
-
-abbrev pub checkCall : ℕ → ℕ → ℕ → List ℕ → List ℕ → List ℕ → List ℕ → List ℕ → List ℕ → CheckCall
-checkCall items labels k edges levels starts order entries area =
-    record { edges = edges; index = indexOf items labels k levels starts order entries; area = area }
-
-abbrev pub checkEnd : Checked → List ℕ → CheckEnd
-checkEnd result area = record { result = result; area = area }
-
 -- a build that is to end as o
 pub record EndsAs (o e : BuildEnd) : Type 0 where
   pub result : e .result ≡ o .result

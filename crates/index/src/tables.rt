@@ -1,13 +1,13 @@
 // Build and check.
 use crate::building;
 use crate::checking;
-use crate::links;
-use crate::orders;
 use links::Link;
+use refusals::links;
+use refusals::orders;
 use rules::Built;
 use rules::Checked;
 ghost use Rattle.rules.specs.Promises.{Builds, Checks};
-ghost use Rattle.index.specs.Tables.{buildCall, buildEnd, checkCall, checkEnd};
+ghost use Rattle.rules.specs.Calls.{buildCall, buildEnd, checkCall, checkEnd};
 
 // Writes the four tables of the edge table, and answers how many classes, connected pairs and entries there are; or refuses with 1 to 6.
 pub fn build(

@@ -1,3 +1,4 @@
+-- The laws of the crate: marks, agreement, midpoints, the chains and numbering of a level, its check, and all levels, built or checked.
 pub mod Bits
 pub mod Marks
 pub mod Tables

@@ -134,8 +134,8 @@ fn end_input(
     }
 }
 
-// The last line, and what is printed at the end: at most one of the two is a text. Answers how many bytes of it stand at the front of the
-// output.
+// The last line, and what is printed at the end: at most one of the two is a text, so that both can stand at the front of the output.
+// Answers how many bytes of it do.
 pub fn finish(
     s: State,
     part: &[u8],
@@ -164,9 +164,7 @@ pub fn finish(
         out,
     );
     let many = taken.many;
-    if 0 < many {
-        return many;
-    }
     let t = taken.state;
-    end_input(t, edges, levels, starts, order, entries, area, out)
+    let rest = end_input(t, edges, levels, starts, order, entries, area, out);
+    many + rest
 }

@@ -10,6 +10,7 @@ pub mod Stored
 pub mod Verdict
 pub mod Accept
 pub mod Outcomes
+pub mod Calls
 pub mod Promises
 pub mod Numbers
 pub mod Published

@@ -12,7 +12,7 @@ use Rattle.rules.specs.declared.Refusal.the-variants.{NoClass}
 use Rattle.rules.specs.declared.Bounds.{Bounds}
 use Rattle.rules.specs.declared.Bounds.the-variants.{Part, Refused}
 use Rattle.rules.specs.Outcomes.{classBounds}
-use Rattle.index.specs.Parts.{Inside}
+use Rattle.parts.specs.Parts.{Inside}
 use Rattle.abi.specs.Handed.{narrowed}
 
 either-narrowed : (t : Bool) (r : Refusal) (from to : ℕ) → from < 2 ^ 32 → to < 2 ^ 32 → narrowed (cond t (Refused r) (Part from to)) ≡ cond t (Refused r) (Part from to)

@@ -6,7 +6,7 @@ use lib.ListN.{length}
 use Rattle.rules.specs.Numbers.{ofBounds}
 use Rattle.rules.specs.declared.Bounds.{Bounds}
 use Rattle.rules.specs.Outcomes.{lookupBounds}
-use Rattle.index.proofs.Laws.Parts.{lookup-part}
+use Rattle.parts.proofs.Laws.Parts.{lookup-part}
 use Rattle.abi.specs.declared.KvResult.{KvResult}
 use Rattle.abi.specs.Handed.{handed, HandsRun}
 use Rattle.abi.proofs.Laws.Narrowing.{inside-narrowed}

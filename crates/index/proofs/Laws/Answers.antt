@@ -27,10 +27,10 @@ use Rattle.area.proofs.Laws.Sets.{list-holds}
 use Rattle.query.specs.Sets.{sourceStep, Source}
 use Rattle.query.specs.Evaluate.{Evaluable, Evaluated}
 use Rattle.query.proofs.Laws.Places.{slot-short}
-use Rattle.index.specs.Calls.{ended}
-use Rattle.index.specs.Telling.{Told}
-use Rattle.index.specs.Classes.{toldAt, LeadReady, Led, classesIn}
-use Rattle.index.proofs.Laws.Telling.{ends-told, ends-refused}
+use Rattle.rules.specs.Calls.{ended}
+use Rattle.telling.specs.Telling.{Told}
+use Rattle.telling.specs.Classes.{toldAt, LeadReady, Led, classesIn}
+use Rattle.telling.proofs.Laws.Telling.{ends-told, ends-refused}
 
 -- what every answer asks before its work
 pub record Ready (items labels : ℕ) (tokens area : List ℕ) : Type 0 where

@@ -28,7 +28,8 @@ use Rattle.lists.specs.Sort.{Contiguous, AtMost, Fills}
 use Rattle.lists.specs.Entries.{Listing, Listed}
 use Rattle.lists.proofs.Laws.Sorting.{upTo-le}
 use Rattle.lists.proofs.Laws.Numbers.{at-most, max-few}
-use Rattle.index.specs.Tables.{buildEnd, EndsAs, Standing, ListsStored, ListsReady, ListsWritten}
+use Rattle.rules.specs.Calls.{buildEnd}
+use Rattle.index.specs.Tables.{EndsAs, Standing, ListsStored, ListsReady, ListsWritten}
 use Rattle.index.proofs.Laws.Fronts.{front-in, zeroed-past}
 use Rattle.index.proofs.Laws.Counts.{square-small, Few, entries-few}
 use Rattle.index.proofs.Laws.Edges.{edges-fit, edges-inside}

@@ -31,7 +31,8 @@ use Rattle.lists.specs.Counters.{Matching, Matches}
 use Rattle.lists.proofs.Laws.Difference.{difference-is}
 use Rattle.lists.proofs.Laws.Numbers.{max-few}
 use Rattle.lists.proofs.Laws.Sorting.{upTo-le}
-use Rattle.index.specs.Tables.{checkEnd, Standing, ListsStored, listsVerdict}
+use Rattle.rules.specs.Calls.{checkEnd}
+use Rattle.index.specs.Tables.{Standing, ListsStored, listsVerdict}
 use Rattle.index.proofs.Laws.Fronts.{cleared}
 use Rattle.index.proofs.Laws.Counts.{square-small}
 use Rattle.index.proofs.Laws.Edges.{edges-fit, edges-inside}

@@ -10,7 +10,7 @@ use Rattle.rules.specs.Writing.{fill}
 use Rattle.rules.specs.Outcomes.{front, zeroed}
 use Rattle.rules.proofs.Laws.Listing.{table-length}
 use Rattle.lists.specs.Relations.{Frame}
-use Rattle.index.proofs.Laws.Telling.{zeroed-again}
+use Rattle.telling.proofs.Laws.Telling.{zeroed-again}
 
 pub front-in : (list old : List ℕ) (j : ℕ) → j < length list → getD (front list old) j 0 ≡ getD list j 0
 unfolding front

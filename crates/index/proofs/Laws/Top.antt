@@ -14,7 +14,7 @@ use Rattle.rules.proofs.Laws.Accepted.{right-at}
 use Rattle.lists.specs.Sort.{Contiguous}
 use Rattle.index.specs.Tables.{Standing}
 use Rattle.index.proofs.Laws.Counts.{square-small}
-use Rattle.index.proofs.Laws.Parts.{pred-is, take-from}
+use Rattle.parts.proofs.Laws.Parts.{pred-is, take-from}
 
 pub level-part : (n k : ℕ) (levels : List ℕ) → take (k * (n * n) - (k - 1) * (n * n)) (drop ((k - 1) * (n * n)) levels) ≡ levelOf n levels k
 unfolding levelOf

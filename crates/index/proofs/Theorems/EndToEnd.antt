@@ -34,8 +34,8 @@ use Rattle.rules.proofs.Theorems.AllOrNone.{all-or-none}
 use Rattle.rules.proofs.Theorems.Builder.{builder-is-accepted}
 use Rattle.rules.proofs.Theorems.Determined.{build-end, answer-end}
 use Rattle.rules.proofs.Theorems.Stored.{stored-is-direct}
-use Rattle.index.specs.Calls.{directCall, storedCall}
-use Rattle.index.specs.Tables.{indexOf}
+use Rattle.rules.specs.Calls.{directCall, storedCall}
+use Rattle.rules.specs.Calls.{indexOf}
 
 -- the tables that build left, the lists cut to the counts that it returned
 unfoldable pub cut : BuildCall → BuildEnd → ℕ → ℕ → ℕ → Index

@@ -1,3 +1,4 @@
+-- No count is promised. The invariant: k is at most i, and i at most the length, so that neither reads nor counts too far.
 use borrow.Author.Needs.{needs}
 use Prim.Native.Nat.{_-_, _≤_}
 use mathlib.Core.Path.{_≡_, refl}

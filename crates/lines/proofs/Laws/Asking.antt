@@ -19,7 +19,7 @@ use Rattle.rules.specs.Verdict.{Verdict, good, refuse, _orElse_, sizes, room, w
 use Rattle.rules.specs.Reading.{readTokens}
 use Rattle.rules.specs.Writing.{fill}
 use Rattle.rules.specs.Outcomes.{front, AnswerEnd, answerAfter, StoredCall, storedRefusal, storedList, stored}
-use Rattle.index.proofs.Laws.Parts.{take-from}
+use Rattle.parts.proofs.Laws.Parts.{take-from}
 use Rattle.rules.proofs.Laws.Listing.{table-length, table-at}
 use Rattle.rules.proofs.Laws.Writing.{length-fill, getD-fill-front}
 use Rattle.lines.specs.Frames.{tokenCount, tokenAt, tokensOf}

@@ -1,5 +1,5 @@
 -- At the end of the input at most one text is printed: that of the last line, or that of the end.
-use Prim.Native.Nat.{ℕ, _<_}
+use Prim.Native.Nat.{ℕ, _+_}
 use mathlib.Core.Path.{_≡_, refl, sym, ap, _∙_}
 use mathlib.Core.List.{List, [], _∷_, _++_, append-nil}
 use mathlib.Core.Logic.{_⊎_, inl, inr}
@@ -17,7 +17,6 @@ use Rattle.lines.specs.declared.Taken.{Taken}
 use Rattle.lines.specs.Frames.{frameOf, tokensOf}
 use Rattle.lines.specs.Machine.{Stage, opening, gathering, answering, stopped, isStopped, Turn, silent, stops, buildCall, builtBy, builds, onSizes, onEdge, asked, onQuery, onFrame, badFrame, onLine, Machine, nextLine, Fed, turned, endLine, lastBy, lastLine, ended, finish}
 use Rattle.lines.specs.Standing.{stageOf, machineOf, Steps, Written}
-use Rattle.lines.proofs.Laws.Feeding.{none-of, written-as}
 
 -- a turn prints nothing, or leaves nothing to print at the end
 abbrev Quiet : Turn → Type 0
@@ -87,23 +86,34 @@ line-calm : (m : Machine) → Calm (lastLine m)
 unfolding lastLine
 line-calm m = stop-calm (isStopped (m .stage)) m (lastBy m (m .part)) (last-calm m (m .part))
 
-one-text : (f : Fed) → Calm f → 0 < length (f .text) → f .text ++ ended (f .machine) (f .machine .stage) ≡ f .text
-one-text f (inl e) h = absurd (omega (arith, h, ap length e))
-one-text f (inr e) h = ap (λ (l : List ℕ). f .text ++ l) e ∙ append-nil (f .text)
-
 module _ (m : Machine) (r : Taken) (part edges levels entries old new : List ℕ) (s : Steps (lastLine m) r part edges levels entries old new) where
-  pub finish-told : 0 < r .many → Written (finish m) (r .many) 0 old new
-  unfolding finish
-  finish-told h =
-      written-as (one-text (lastLine m) (line-calm m) (omega (arith, h, s .many)))
-      (record { size = s .many; bytes = s .text; inside = omega (arith, s .inside) })
+  abbrev end : List ℕ
+  end = ended (machineOf (r .state) part edges levels entries) (stageOf (r .state .progress) edges levels entries)
 
-  pub finish-ended : r .many ≡ 0 → (many : ℕ) (last : List ℕ)
-      → Written (ended (machineOf (r .state) part edges levels entries) (stageOf (r .state .progress) edges levels entries)) many 0 new last
-      → Written (finish m) many 0 old last
-  unfolding finish machineOf
-  finish-ended z many last w =
-      let e : lastLine m .text ≡ [] = none-of (lastLine m .text) (sym (s .many) ∙ z) in
+  -- the same end, by the machine behind the last line
+  end-same : end ≡ ended (lastLine m .machine) (lastLine m .machine .stage)
+  unfolding machineOf
+  end-same = ap (λ (n : Machine). ended n (n .stage)) (s .machine)
+
+  -- the last line is silent, or the end is
+  one-text : Calm (lastLine m) → (rest : ℕ) (last : List ℕ) → Written end rest 0 new last → Written (finish m) (r .many + rest) 0 old last
+  unfolding finish
+  one-text (inl e) rest last w =
+      let f : finish m ≡ end = ap (λ (l : List ℕ). l ++ ended (lastLine m .machine) (lastLine m .machine .stage)) e ∙ sym end-same in
       let same : new ≡ old = s .text ∙ ap (sets old 0) e in
-      written-as (ap (λ (l : List ℕ). l ++ ended (lastLine m .machine) (lastLine m .machine .stage)) e ∙ ap (λ (n : Machine). ended n (n .stage)) (sym (s .machine)))
-      (rw (sym same) w)
+      record {
+        size = omega (arith, s .many, ap length e, w .size, ap length f);
+        bytes = w .bytes ∙ (ap (λ (l : List ℕ). sets l 0 end) same ∙ ap (sets old 0) (sym f));
+        inside = omega (arith, s .many, ap length e, w .inside, ap length same);
+      }
+  one-text (inr e) rest last w =
+      let z : end ≡ [] = end-same ∙ e in
+      let f : finish m ≡ lastLine m .text = ap (λ (l : List ℕ). lastLine m .text ++ l) e ∙ append-nil (lastLine m .text) in
+      record {
+        size = omega (arith, s .many, w .size, ap length z, ap length f);
+        bytes = w .bytes ∙ (ap (sets new 0) z ∙ (s .text ∙ ap (sets old 0) (sym f)));
+        inside = omega (arith, s .inside, w .size, ap length z);
+      }
+
+  pub finish-told : (rest : ℕ) (last : List ℕ) → Written end rest 0 new last → Written (finish m) (r .many + rest) 0 old last
+  finish-told rest last w = one-text (line-calm m) rest last w

@@ -1,3 +1,4 @@
+-- No result is promised: the first n numbers are there where the list is not shorter.
 use mathlib.Core.Path.{sym}
 use borrow.Author.Needs.{needs}
 use lib.Seq.{length-take-le}

@@ -1,3 +1,4 @@
+-- No output is promised. The invariant: i is at most the length of the area, so that each read is in it.
 use Prim.Native.Nat.{_-_, _≤_}
 use mathlib.Core.Path.{_≡_, refl}
 use borrow.Author.Needs.{needs}

@@ -1,3 +1,4 @@
+-- Two ends: more entries than room leaves the entries and gives 6; else all lists stand at the front, and the number of entries fits 32 bits.
 use borrow.Author.Needs.{needs}
 use mathlib.Core.Path.{_∙_}
 use native.Mathlib.Omega.{arith}

@@ -1,3 +1,4 @@
+-- The levels that were built give the table of level k, in order and with C its largest number; the lists of it complete the tables.
 use mathlib.Core.Path.{_∙_}
 use borrow.Author.Needs.{needs}
 use Rattle.index.proofs.Laws.Building.{few-labels, level-edges, level-labels, level-room, table-is, standing, lists-ready, tables-built}

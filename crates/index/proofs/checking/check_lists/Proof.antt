@@ -1,3 +1,4 @@
+-- Four ends: starts, order or entries wrong, or all right. A list is right exactly if its first difference equals both lengths.
 use borrow.Author.Needs.{needs}
 use mathlib.Core.Path.{sym, _∙_}
 use native.Mathlib.Omega.{arith}

@@ -1,3 +1,4 @@
+-- A level fault is the verdict; right levels make the stored level k fit for the lists, which then decide (`lists-decide`).
 use borrow.Author.Needs.{needs}
 use Rattle.index.proofs.Laws.Fronts.{frame-trans, past-frame}
 use Rattle.index.proofs.Laws.Checking.{told-good, few-labels, level-edges, level-labels, level-room, standing, lists-stored, levels-refused, lists-decide}

@@ -1,3 +1,4 @@
+-- The two ways of the first test: not `one` at all, else the test against `other`.
 use borrow.Author.Tests.{ne-eqb, eq-eqb}
 use Rattle.index.proofs.checking.differ.Statement.{statement}
 use Rattle.index.proofs.checking.differ.Tie as tie

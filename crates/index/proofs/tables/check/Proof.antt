@@ -1,11 +1,12 @@
+-- A link that refuses is the refusal of the call; else the verdict is `check_tables`'s, and the area that it worked in is cleared.
 use borrow.Author.Needs.{needs}
 use mathlib.Core.Path.{_≡_}
 use native.Mathlib.Omega.{arith}
 use Rattle.rules.specs.Verdict.{good}
 use Rattle.rules.specs.Outcomes.{checkRefusal, checkGraph}
 use Rattle.rules.proofs.Laws.Calls.{passed}
-use Rattle.index.specs.Tables.{checkCall}
-use Rattle.index.proofs.Laws.Links.{link-good, link-refused}
+use Rattle.rules.specs.Calls.{checkCall}
+use Rattle.refusals.proofs.Laws.Links.{link-good, link-refused}
 use Rattle.index.proofs.Laws.Counts.{square-small}
 use Rattle.index.proofs.Laws.Checking.{few-items, checks-worked, checks-refused}
 use Rattle.index.proofs.tables.check.Statement.{statement}

@@ -1,3 +1,4 @@
+-- The part from (k-1)·n·n to k·n·n lies among the levels and is level k by definition (`level-part`).
 use native.Mathlib.Omega.{arith}
 use borrow.Author.Needs.{needs}
 use Rattle.index.proofs.Laws.Counts.{square-small}

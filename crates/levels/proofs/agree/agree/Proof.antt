@@ -1,3 +1,4 @@
+-- A, B and C are left at the first that fails. The invariant for C: the first c splits hold, their levels by the rule.
 use Prim.Native.Nat.{_-_, _≤_}
 use mathlib.Core.Path.{_≡_}
 use mathlib.Core.Bool.{true}

@@ -1,3 +1,4 @@
+-- The first half of a midpoint is at level i-1 in every split, by the rule's definition.
 use Rattle.levels.proofs.Laws.Tables.{rule-first}
 use borrow.Author.Needs.{needs}
 use Rattle.levels.proofs.agree.first_level.Statement.{statement}

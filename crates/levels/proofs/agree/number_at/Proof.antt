@@ -1,3 +1,4 @@
+-- Level and position fit among the numbers (`place-lt`, and room for the levels), and `number-get` says what stands there.
 use mathlib.Core.Path.{sym}
 use native.Mathlib.Omega.{arith}
 use Rattle.rules.proofs.Laws.Places.{place-lt}

@@ -1,3 +1,4 @@
+-- Condition A in the two ways of the first test; it is the same for every graph.
 use Rattle.levels.proofs.Laws.Tables.{ends-same, ends-apart}
 use Rattle.levels.proofs.agree.same_ends.Statement.{statement}
 use Rattle.levels.proofs.agree.same_ends.Tie as tie

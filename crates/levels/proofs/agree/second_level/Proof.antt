@@ -1,3 +1,4 @@
+-- The second half of a midpoint is at level i-1 in every split, by the rule's definition.
 use Rattle.levels.proofs.Laws.Tables.{rule-second}
 use borrow.Author.Needs.{needs}
 use Rattle.levels.proofs.agree.second_level.Statement.{statement}

@@ -1,3 +1,4 @@
+-- One split above level 1 and none at level 1, by the rule's definition.
 use native.Mathlib.Omega.{arith}
 use Rattle.rules.specs.Rule.{rule}
 use Rattle.levels.proofs.agree.splits.Statement.{statement}

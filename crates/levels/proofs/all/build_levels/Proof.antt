@@ -1,3 +1,4 @@
+-- The levels of the marks are the levels of the edge table, for every number of labels that fits (`levels-built`).
 use mathlib.Core.Path.{_≡_}
 use native.Mathlib.Omega.{arith}
 use lib.ListN.{length}

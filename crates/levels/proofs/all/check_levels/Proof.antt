@@ -1,3 +1,4 @@
+-- The faults over the marks are those over the edge table, for every number of labels that fits (`levels-checked`).
 use mathlib.Core.Path.{_≡_}
 use native.Mathlib.Omega.{arith}
 use lib.ListN.{length}

@@ -1,3 +1,4 @@
+-- The invariant: levels 1 to i are right and the marks are kept; the first faulty level ends the check with its first position.
 use Prim.Native.Nat.{_-_, _≤_}
 use mathlib.Core.Path.{_≡_}
 use native.Mathlib.Numerals.{add-one}

@@ -1,3 +1,4 @@
+-- The invariant: the built levels 1 to i stand at the front, top is the largest number of level i, and the marks are kept.
 use Prim.Native.Nat.{_-_, _≤_}
 use mathlib.Core.Path.{_≡_, ap, _∙_}
 use native.Mathlib.Numerals.{add-one}

@@ -1,3 +1,4 @@
+-- The old head is read, then two words are stored: the link of p and the new head. All three places are in the area.
 use Prim.Native.Nat.{ℕ, _+_, _*_}
 use mathlib.Core.Path.{ap, _∙_}
 use mathlib.Core.List.{List}

@@ -1,3 +1,4 @@
+-- The marks there and back and the hash give `bucketOf` by its definition; a remainder by n·n is below n·n.
 use Prim.Native.Nat.{ℕ, _<_}
 use lib.ListN.{getD}
 use native.Mathlib.Omega.{arith}

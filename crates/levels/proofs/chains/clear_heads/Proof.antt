@@ -1,3 +1,4 @@
+-- The invariant: the first q bytes of the heads are 0, the rest of the area is as before.
 use Prim.Native.Nat.{_*_, _-_, _≤_}
 use mathlib.Core.Path.{_≡_, refl}
 use native.Mathlib.Omega.{arith}

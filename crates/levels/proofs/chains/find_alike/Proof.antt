@@ -1,3 +1,4 @@
+-- The invariant: whatever in the chain is alike p is still ahead. Links lead down, so the walk ends; then no earlier position is alike.
 use Prim.Native.Nat.{ℕ, _*_, _-_, _<_}
 use native.Mathlib.Omega.{arith}
 use lib.ListN.{getD}

@@ -1,3 +1,4 @@
+-- Two stores by the definition of `setWord`; remainder and quotient by 256 are bytes since x is below 65536.
 use mathlib.Core.Path.{refl}
 use Rattle.levels.specs.Chains.{setWord}
 use borrow.Author.Needs.{needs}

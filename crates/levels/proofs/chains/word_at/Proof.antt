@@ -1,3 +1,4 @@
+-- Two bytes by the definition of `word`; each is below 256, so the number is below 65536.
 use Prim.Native.Nat.{_+_}
 use mathlib.Core.Path.{refl}
 use native.Mathlib.Omega.{arith}

@@ -1,3 +1,4 @@
+-- The bytes of connected pairs leave the marks alone, so the first fault found over them is that of the area at entry.
 use Rattle.levels.proofs.Laws.Areas.{near-ready}
 use Rattle.levels.proofs.Laws.Turn.{level-faulty}
 use borrow.Author.Needs.{needs}

@@ -1,3 +1,4 @@
+-- The invariant: no fault before p, top is the largest number before p, and the first position of each number up to top is kept.
 use Prim.Native.Nat.{suc, _+_, _*_, _-_, _≤_}
 use mathlib.Core.Path.{_≡_, refl, sym, _∙_}
 use mathlib.Core.Bool.{false}

@@ -1,3 +1,4 @@
+-- Four cases: not connected, 0 though connected, a new number, an old one; the last reads its first position and tests agreement with it.
 use lib.ListN.{getD}
 use Prim.Native.Nat.{_*_, _<_}
 use mathlib.Core.Path.{_≡_, sym, ap, _∙_}

@@ -1,3 +1,4 @@
+-- Two ways: an old number changes nothing; a new one stores p at the place of number top + 1, which is in the area since top ≤ p.
 use mathlib.Core.Path.{refl}
 use native.Mathlib.Omega.{arith}
 use Rattle.rules.proofs.Laws.Places.{square-le}

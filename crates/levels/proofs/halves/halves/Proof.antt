@@ -1,4 +1,4 @@
--- After m turns the list has exactly the midpoints among the first m items.
+-- The invariant: the first k of the list are just the midpoints among the first m items; one equal to the last is listed already.
 use Prim.Native.Nat.{_-_, _≤_}
 use mathlib.Core.Path.{_≡_, refl}
 use native.Mathlib.Omega.{arith}

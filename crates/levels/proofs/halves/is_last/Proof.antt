@@ -1,4 +1,4 @@
--- Where the last number of the list is x, x stands in the list.
+-- Only a yes is promised: then x stands at place k-1 of the list.
 use Prim.Native.Nat.{ℕ}
 use native.Mathlib.Omega.{arith}
 use mathlib.Core.Path.{_≡_}

@@ -1,4 +1,4 @@
--- Two lists that hold each other are twins both ways.
+-- Both lists hold just the midpoints of their pair, and numbers below 2^32 pair one to one: `within` each way is `twins` each way.
 use Prim.Native.Nat.{ℕ, _<_}
 use mathlib.Core.Path.{_∙_}
 use native.Mathlib.Omega.{arith}

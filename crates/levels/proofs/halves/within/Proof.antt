@@ -1,4 +1,4 @@
--- The search for twins: those before m have one, and none before w is one of m.
+-- The outer invariant: the first m have a twin; the inner: none of the first w is one of m. Without a twin the answer is false.
 use Prim.Native.Nat.{_-_, _≤_}
 use mathlib.Core.Path.{_≡_, refl, sym, _∙_}
 use mathlib.Core.Bool.{true, false}

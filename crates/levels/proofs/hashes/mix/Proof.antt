@@ -1,4 +1,4 @@
--- The hash of a number is computed as it is defined.
+-- The hash by its definition; a remainder by 2^32 is below 2^32.
 use borrow.Author.Needs.{needs}
 use Rattle.levels.proofs.Laws.Signature.{mix-is}
 use Rattle.levels.proofs.hashes.mix.Statement.{statement}

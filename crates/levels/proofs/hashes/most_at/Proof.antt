@@ -1,4 +1,4 @@
--- With no split 0, else what the first split gives.
+-- The two ways of the test: 0 by definition where the level has no split, else what `split_most` answers.
 use native.Mathlib.Omega.{arith}
 use borrow.Author.Needs.{needs}
 use Rattle.levels.proofs.Laws.Signature.{most-none, most-some}

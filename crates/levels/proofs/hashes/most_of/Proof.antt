@@ -1,4 +1,4 @@
--- After j turns the four numbers are the largest hashes of the first j of the list.
+-- The invariant: the four are the largest hashes of the first j numbers, by each turn, and below 2^32.
 use Prim.Native.Nat.{_-_, _≤_}
 use mathlib.Core.Path.{_≡_}
 use native.Mathlib.Omega.{arith}

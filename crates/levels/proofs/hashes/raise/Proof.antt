@@ -1,4 +1,4 @@
--- Four numbers are raised, each to a turn of the hash of x.
+-- Each of the four becomes the larger of itself and the hash turned by its quarter (`turn-up`); all stay below 2^32.
 use borrow.Author.Needs.{needs}
 use Rattle.levels.proofs.Laws.Signature.{turn-up}
 use Rattle.levels.proofs.hashes.raise.Statement.{statement}

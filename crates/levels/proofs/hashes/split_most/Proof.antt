@@ -1,4 +1,4 @@
--- The largest hashes of the list of midpoints are those of the midpoints.
+-- The list has just the midpoints, so its four largest hashes are theirs (`split-is`); each is below 2^32, so the sum fits.
 use native.Mathlib.Omega.{arith}
 use mathlib.Core.Path.{refl}
 use borrow.Author.Needs.{needs}

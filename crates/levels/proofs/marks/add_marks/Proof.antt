@@ -1,3 +1,4 @@
+-- The invariant: bit l of byte q says whether one of the first e edges joins the pair at q by label l; past n·n all is as before.
 use Prim.Native.Nat.{ℕ, _+_, _*_, _/_, _%_, _-_, _<_, _≤_}
 use mathlib.Core.Path.{_≡_, refl, sym, ap, _∙_}
 use native.Mathlib.Omega.{arith}

@@ -1,3 +1,4 @@
+-- The invariant: the first q bytes are 0, the rest as before.
 use Prim.Native.Nat.{_*_, _-_, _≤_}
 use mathlib.Core.Path.{_≡_, refl}
 use native.Mathlib.Omega.{arith}

@@ -1,3 +1,4 @@
+-- The pair's position is below n·n (`place-lt`), so the read is in the area; a byte is below 256.
 use Prim.Native.Nat.{_+_, _*_}
 use mathlib.Core.Path.{refl}
 use native.Mathlib.Omega.{arith}

@@ -1,3 +1,4 @@
+-- Cleared marks, then those of the edges; neither changes what lies past the first n·n bytes.
 use Prim.Native.Nat.{ℕ, _*_}
 use mathlib.Core.List.{List}
 use native.Mathlib.Omega.{arith}

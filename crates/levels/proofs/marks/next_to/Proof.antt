@@ -1,3 +1,4 @@
+-- Connected within 1 as three tests: the same item, a mark there, a mark back. A mark is 0 exactly if no label is set.
 use Rattle.levels.proofs.Laws.Marks.{near-self, near-first, near-rest}
 use borrow.Author.Needs.{needs}
 use Rattle.levels.proofs.marks.next_to.Statement.{statement}

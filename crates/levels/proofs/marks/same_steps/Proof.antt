@@ -1,3 +1,4 @@
+-- Condition B from the marks of the pairs, there and back: two bytes are equal exactly if all eight labels are.
 use Rattle.levels.proofs.Laws.Marks.{steps-differ, steps-rest}
 use borrow.Author.Needs.{needs}
 use Rattle.levels.proofs.marks.same_steps.Statement.{statement}

@@ -1,4 +1,4 @@
--- A row of level 1 is or-ed into the row: after u turns its first u numbers are.
+-- The invariant: the first u numbers are the or of the row as it was and of row m of level 1, the rest as before.
 use Prim.Native.Nat.{ℕ, _+_, _*_, _-_, _≤_, _<_}
 use mathlib.Core.Path.{_≡_, refl}
 use native.Mathlib.Omega.{arith}

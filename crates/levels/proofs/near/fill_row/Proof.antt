@@ -1,4 +1,4 @@
--- The row of items connected within i: by marks at level 1, above it by the level below and one step.
+-- Level 1 is one step by definition (`row-first`); above, connected within i is a midpoint at i-1 and a step (`row-far`).
 use native.Mathlib.Omega.{arith}
 use borrow.Author.Needs.{needs}
 use Rattle.levels.proofs.Laws.Tables.{base-next}

@@ -1,4 +1,4 @@
--- The row of items within one step: after u turns its first u numbers are filled.
+-- The invariant: the first u numbers tell which items are within one step of v, the rest are as before.
 use Prim.Native.Nat.{ℕ, _+_, _*_, _-_, _≤_, _<_}
 use mathlib.Core.Path.{_≡_, refl}
 use native.Mathlib.Omega.{arith}

@@ -1,4 +1,4 @@
--- The row tells of each item whether one of the first m midpoints leads to it.
+-- The invariant: the row tells which items have a midpoint among the first m. An m that the level does not connect with v adds none.
 use Prim.Native.Nat.{_-_, _≤_}
 use mathlib.Core.Path.{_≡_, refl, _∙_}
 use native.Mathlib.Omega.{arith}

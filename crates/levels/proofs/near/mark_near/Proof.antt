@@ -1,4 +1,4 @@
--- The bytes of all positions, row by row; the marks before them stay.
+-- The invariant: the first v rows behind the marks are written. All n rows are one fill of n·n bytes (`fill-rows`).
 use Prim.Native.Nat.{_+_, _*_, _-_, _≤_}
 use mathlib.Core.Path.{_≡_, sym, _∙_}
 use native.Mathlib.Omega.{arith}

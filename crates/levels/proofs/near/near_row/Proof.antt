@@ -1,4 +1,4 @@
--- The bytes of one row, from the row of numbers that fill_row makes.
+-- The row is filled from zeros, and its signs are put n·n + v·n bytes in: `row-bytes` makes the two one row of `connected`.
 use native.Mathlib.Omega.{arith}
 use borrow.Author.Needs.{needs}
 use Rattle.rules.proofs.Laws.Places.{row-fits, square-le}

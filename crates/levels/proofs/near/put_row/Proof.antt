@@ -1,4 +1,4 @@
--- The signs of the row as bytes: after u turns the first u stand.
+-- The invariant: the first u bytes from `at` on are the signs of the row, the rest of the area is as before.
 use Prim.Native.Nat.{ℕ, _+_, _*_, _-_, _≤_, _<_}
 use mathlib.Core.Path.{_≡_, refl}
 use native.Mathlib.Omega.{arith}

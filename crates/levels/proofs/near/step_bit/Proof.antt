@@ -1,4 +1,4 @@
--- 1 where two items are the same or next to each other: what next_to answers, as a number.
+-- The two ways of the test that `next_to` makes, as 1 and 0.
 use borrow.Author.Needs.{needs}
 use Rattle.levels.proofs.Laws.Rows.{one-yes, one-no}
 use Rattle.levels.proofs.near.step_bit.Statement.{statement}

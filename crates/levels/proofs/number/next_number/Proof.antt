@@ -1,3 +1,4 @@
+-- Three cases: not connected; alike an earlier position, whose number is read; new, when p heads its chain and the number is top + 1.
 use Prim.Native.Nat.{ℕ, _<_}
 use native.Mathlib.Omega.{arith}
 use lib.ListN.{getD}

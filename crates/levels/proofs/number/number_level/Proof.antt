@@ -1,3 +1,4 @@
+-- The bytes of connected pairs and empty chains are what numbering needs (`level-ready`); neither changes the marks (`level-numbered`).
 use Rattle.levels.proofs.Laws.Turn.{level-ready, level-numbered}
 use borrow.Author.Needs.{needs}
 use Rattle.levels.proofs.number.number_level.Statement.{statement}

@@ -1,3 +1,4 @@
+-- The invariant: the first p numbers of level i are the numbering, top is the largest, and the chains have one alike each connected pair before p.
 use Prim.Native.Nat.{_+_, _*_, _-_, _≤_, max}
 use mathlib.Core.Path.{_≡_, refl, sym, _∙_}
 use mathlib.Core.Logic.{⊎-elim}

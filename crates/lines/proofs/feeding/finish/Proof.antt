@@ -2,85 +2,64 @@
 use mathlib.Core.Path.{_∙_}
 use native.Mathlib.Omega.{arith}
 use Rattle.lines.specs.Standing.{machineOf}
-use Rattle.lines.proofs.Laws.Ending.{finish-told, finish-ended}
+use Rattle.lines.proofs.Laws.Ending.{finish-told}
 use Rattle.lines.proofs.feeding.finish.Statement.{statement}
 use Rattle.lines.proofs.feeding.finish.Tie as tie
 
 last-line-requires : tie.Need-last-line-requires
 last-line-requires c κs = c .before .before .before .before .before .before .before .before .before .before .before .before .before .before .before .before .before .pre
 
+end-input-requires : tie.Need-end-input-requires
+end-input-requires c κs =
+    let b = c .before .before .before .before .before .before .before .before .before .before .before .before .before .before .before .before .before .before .before .before .before .before .before .before .last-line in
+    let r = c .before .before .before .before .before .before .before .before .before .before .before .before .before .before .before .before .before .before .before .before .before .before .before .before .before .before .before .before .before .before .before .before .before .before .before .before .before .before .before .before .before .before .pre .2 .rooms in
+    (b .ensures .stands, record { edges-lent = b .kept .1 .1 .0 ∙ r .edges-lent; levels-lent = b .kept .1 .1 .1 .0 ∙ r .levels-lent; starts-lent = b .kept .1 .1 .1 .1 .0 ∙ r .starts-lent; order-lent = b .kept .1 .1 .1 .1 .1 .0 ∙ r .order-lent; entries-lent = b .kept .1 .1 .1 .1 .1 .1 .0 ∙ r .entries-lent; area-lent = b .kept .1 .1 .1 .1 .1 .1 .1 .0 ∙ r .area-lent; out-lent = b .kept .1 .1 .1 .1 .1 .1 .1 .1 .1 .0 ∙ r .out-lent })
+
+add-result : tie.Need-add-result
+add-result c =
+    let a = c .before .before .before .before .before .before .before .before .before .before .before .before .before .before .before .before .before .before .before .before .before .before .before .before .before .before .before .before .before .before .before .before .before .before .before .before .before .before .before .before .before .before .before .before .before .before .before .before .before .before .before .before .before .before .before .args in
+    let b = c .before .before .before .before .before .before .before .before .before .before .before .before .before .before .before .before .before .before .before .before .before .before .before .before .before .before .before .before .before .before .before .before .before .before .before .before .before .last-line in
+    let e = c .before .before .before .before .before .before .before .before .before .before .before .before .end-input in
+    omega (arith, b .ensures .inside, (e .ensures (a .part .now)) .inside, b .kept .1 .1 .1 .1 .1 .1 .1 .1 .1 .0, c .before .before .before .before .before .before .before .before .before .before .before .before .before .before .before .before .before .before .before .before .before .before .before .before .before .before .before .before .before .before .before .before .before .before .before .before .before .before .before .before .before .before .before .before .before .before .before .before .before .before .before .before .before .before .before .pre .2 .rooms .out-lent)
+
 same-length : tie.Need-same-length
-same-length c = c .before .before .before .before .before .before .before .before .before .before .before .before .before .before .before .before .before .last-line .kept .1 .1 .0
+same-length c = c .before .before .before .before .before .before .before .before .before .before .before .before .before .before .before .before .before .before .before .before .before .before .before .before .before .before .before .before .before .before .before .before .before .before .before .before .before .last-line .kept .1 .1 .0
 
 same-length-2 : tie.Need-same-length-2
-same-length-2 c = c .before .before .before .before .before .before .before .before .before .before .before .before .before .before .before .before .before .last-line .kept .1 .1 .1 .0
+same-length-2 c = c .before .before .before .before .before .before .before .before .before .before .before .before .end-input .kept .1 .1 .0 ∙ c .before .before .before .before .before .before .before .before .before .before .before .before .before .before .before .before .before .before .before .before .before .before .before .before .before .before .before .before .before .before .before .before .before .before .before .before .before .last-line .kept .1 .1 .1 .0
 
 same-length-3 : tie.Need-same-length-3
-same-length-3 c = c .before .before .before .before .before .before .before .before .before .before .before .before .before .before .before .before .before .last-line .kept .1 .1 .1 .1 .0
+same-length-3 c = c .before .before .before .before .before .before .before .before .before .before .before .before .end-input .kept .1 .1 .1 .0 ∙ c .before .before .before .before .before .before .before .before .before .before .before .before .before .before .before .before .before .before .before .before .before .before .before .before .before .before .before .before .before .before .before .before .before .before .before .before .before .last-line .kept .1 .1 .1 .1 .0
 
 same-length-4 : tie.Need-same-length-4
-same-length-4 c = c .before .before .before .before .before .before .before .before .before .before .before .before .before .before .before .before .before .last-line .kept .1 .1 .1 .1 .1 .0
+same-length-4 c = c .before .before .before .before .before .before .before .before .before .before .before .before .end-input .kept .1 .1 .1 .1 .0 ∙ c .before .before .before .before .before .before .before .before .before .before .before .before .before .before .before .before .before .before .before .before .before .before .before .before .before .before .before .before .before .before .before .before .before .before .before .before .before .last-line .kept .1 .1 .1 .1 .1 .0
 
 same-length-5 : tie.Need-same-length-5
-same-length-5 c = c .before .before .before .before .before .before .before .before .before .before .before .before .before .before .before .before .before .last-line .kept .1 .1 .1 .1 .1 .1 .0
+same-length-5 c = c .before .before .before .before .before .before .before .before .before .before .before .before .end-input .kept .1 .1 .1 .1 .1 .0 ∙ c .before .before .before .before .before .before .before .before .before .before .before .before .before .before .before .before .before .before .before .before .before .before .before .before .before .before .before .before .before .before .before .before .before .before .before .before .before .last-line .kept .1 .1 .1 .1 .1 .1 .0
 
 same-length-6 : tie.Need-same-length-6
-same-length-6 c = c .before .before .before .before .before .before .before .before .before .before .before .before .before .before .before .before .before .last-line .kept .1 .1 .1 .1 .1 .1 .1 .0
+same-length-6 c = c .before .before .before .before .before .before .before .before .before .before .before .before .end-input .kept .1 .1 .1 .1 .1 .1 .0 ∙ c .before .before .before .before .before .before .before .before .before .before .before .before .before .before .before .before .before .before .before .before .before .before .before .before .before .before .before .before .before .before .before .before .before .before .before .before .before .last-line .kept .1 .1 .1 .1 .1 .1 .1 .0
 
 same-length-7 : tie.Need-same-length-7
-same-length-7 c = c .before .before .before .before .before .before .before .before .before .before .before .before .before .before .before .before .before .last-line .kept .1 .1 .1 .1 .1 .1 .1 .1 .0
+same-length-7 c = c .before .before .before .before .before .before .before .before .before .before .before .before .before .before .before .before .before .before .before .before .before .before .before .before .before .before .before .before .before .before .before .before .before .before .before .before .before .last-line .kept .1 .1 .1 .1 .1 .1 .1 .1 .0
 
 same-length-8 : tie.Need-same-length-8
-same-length-8 c = c .before .before .before .before .before .before .before .before .before .before .before .before .before .before .before .before .before .last-line .kept .1 .1 .1 .1 .1 .1 .1 .1 .1 .0
+same-length-8 c = c .before .before .before .before .before .before .before .before .before .before .before .before .end-input .kept .1 .1 .1 .1 .1 .1 .1 .0 ∙ c .before .before .before .before .before .before .before .before .before .before .before .before .before .before .before .before .before .before .before .before .before .before .before .before .before .before .before .before .before .before .before .before .before .before .before .before .before .last-line .kept .1 .1 .1 .1 .1 .1 .1 .1 .1 .0
 
 returns : tie.Need-returns
 returns c =
-    let a = c .before .before .before .before .before .before .before .before .before .before .before .before .before .before .before .before .before .before .before .before .before .before .before .before .before .before .before .before .before .before .before .before .before .before .before .args in
-    let b = c .before .before .before .before .before .before .before .before .before .before .before .before .before .before .before .before .before .last-line in
-    finish-told (machineOf (a .s) (a .part .now) (a .edges .now) (a .levels .now) (a .entries .now)) (b .result) (a .part .now) (b .last .1 .1 .0) (b .last .1 .1 .1 .0) (b .last .1 .1 .1 .1 .1 .1 .0) (a .out .now) (b .last .1 .1 .1 .1 .1 .1 .1 .1 .1 .0) (b .ensures) (c .if1 .taken)
-
-end-input-requires : tie.Need-end-input-requires
-end-input-requires c κs =
-    let b = c .before .before .before .before .before .before .before .before .before .before .before .before .before .before .before .before .before .before .before .before .before .before .before .before .before .last-line in
-    let r = c .before .before .before .before .before .before .before .before .before .before .before .before .before .before .before .before .before .before .before .before .before .before .before .before .before .before .before .before .before .before .before .before .before .before .before .before .before .before .before .before .before .before .before .pre .2 .rooms in
-    (b .ensures .stands, record { edges-lent = b .kept .1 .1 .0 ∙ r .edges-lent; levels-lent = b .kept .1 .1 .1 .0 ∙ r .levels-lent; starts-lent = b .kept .1 .1 .1 .1 .0 ∙ r .starts-lent; order-lent = b .kept .1 .1 .1 .1 .1 .0 ∙ r .order-lent; entries-lent = b .kept .1 .1 .1 .1 .1 .1 .0 ∙ r .entries-lent; area-lent = b .kept .1 .1 .1 .1 .1 .1 .1 .0 ∙ r .area-lent; out-lent = b .kept .1 .1 .1 .1 .1 .1 .1 .1 .1 .0 ∙ r .out-lent })
-
-same-length-9 : tie.Need-same-length-9
-same-length-9 c = c .before .before .before .before .before .before .before .before .before .before .before .before .before .before .before .before .before .before .before .before .before .before .before .before .before .before .before .before .before .before .before .before .before .before .before .before .before .before .last-line .kept .1 .1 .0
-
-same-length-10 : tie.Need-same-length-10
-same-length-10 c = c .before .before .before .before .before .before .before .before .before .before .before .before .end-input .kept .1 .1 .0 ∙ c .before .before .before .before .before .before .before .before .before .before .before .before .before .before .before .before .before .before .before .before .before .before .before .before .before .before .before .before .before .before .before .before .before .before .before .before .before .before .last-line .kept .1 .1 .1 .0
-
-same-length-11 : tie.Need-same-length-11
-same-length-11 c = c .before .before .before .before .before .before .before .before .before .before .before .before .end-input .kept .1 .1 .1 .0 ∙ c .before .before .before .before .before .before .before .before .before .before .before .before .before .before .before .before .before .before .before .before .before .before .before .before .before .before .before .before .before .before .before .before .before .before .before .before .before .before .last-line .kept .1 .1 .1 .1 .0
-
-same-length-12 : tie.Need-same-length-12
-same-length-12 c = c .before .before .before .before .before .before .before .before .before .before .before .before .end-input .kept .1 .1 .1 .1 .0 ∙ c .before .before .before .before .before .before .before .before .before .before .before .before .before .before .before .before .before .before .before .before .before .before .before .before .before .before .before .before .before .before .before .before .before .before .before .before .before .before .last-line .kept .1 .1 .1 .1 .1 .0
-
-same-length-13 : tie.Need-same-length-13
-same-length-13 c = c .before .before .before .before .before .before .before .before .before .before .before .before .end-input .kept .1 .1 .1 .1 .1 .0 ∙ c .before .before .before .before .before .before .before .before .before .before .before .before .before .before .before .before .before .before .before .before .before .before .before .before .before .before .before .before .before .before .before .before .before .before .before .before .before .before .last-line .kept .1 .1 .1 .1 .1 .1 .0
-
-same-length-14 : tie.Need-same-length-14
-same-length-14 c = c .before .before .before .before .before .before .before .before .before .before .before .before .end-input .kept .1 .1 .1 .1 .1 .1 .0 ∙ c .before .before .before .before .before .before .before .before .before .before .before .before .before .before .before .before .before .before .before .before .before .before .before .before .before .before .before .before .before .before .before .before .before .before .before .before .before .before .last-line .kept .1 .1 .1 .1 .1 .1 .1 .0
-
-same-length-15 : tie.Need-same-length-15
-same-length-15 c = c .before .before .before .before .before .before .before .before .before .before .before .before .before .before .before .before .before .before .before .before .before .before .before .before .before .before .before .before .before .before .before .before .before .before .before .before .before .before .last-line .kept .1 .1 .1 .1 .1 .1 .1 .1 .0
-
-same-length-16 : tie.Need-same-length-16
-same-length-16 c = c .before .before .before .before .before .before .before .before .before .before .before .before .end-input .kept .1 .1 .1 .1 .1 .1 .1 .0 ∙ c .before .before .before .before .before .before .before .before .before .before .before .before .before .before .before .before .before .before .before .before .before .before .before .before .before .before .before .before .before .before .before .before .before .before .before .before .before .before .last-line .kept .1 .1 .1 .1 .1 .1 .1 .1 .1 .0
-
-returns-2 : tie.Need-returns-2
-returns-2 c =
-    let a = c .before .before .before .before .before .before .before .before .before .before .before .before .before .before .before .before .before .before .before .before .before .before .before .before .before .before .before .before .before .before .before .before .before .before .before .before .before .before .before .before .before .before .before .before .before .before .before .before .before .before .before .before .before .before .before .before .args in
-    let b = c .before .before .before .before .before .before .before .before .before .before .before .before .before .before .before .before .before .before .before .before .before .before .before .before .before .before .before .before .before .before .before .before .before .before .before .before .before .before .last-line in
+    let a = c .before .before .before .before .before .before .before .before .before .before .before .before .before .before .before .before .before .before .before .before .before .before .before .before .before .before .before .before .before .before .before .before .before .before .before .before .before .before .before .before .before .before .before .before .before .before .before .before .before .before .before .before .before .before .before .args in
+    let b = c .before .before .before .before .before .before .before .before .before .before .before .before .before .before .before .before .before .before .before .before .before .before .before .before .before .before .before .before .before .before .before .before .before .before .before .before .before .last-line in
     let e = c .before .before .before .before .before .before .before .before .before .before .before .before .end-input in
-    finish-ended (machineOf (a .s) (a .part .now) (a .edges .now) (a .levels .now) (a .entries .now)) (b .result) (a .part .now) (b .last .1 .1 .0) (b .last .1 .1 .1 .0) (b .last .1 .1 .1 .1 .1 .1 .0) (a .out .now) (b .last .1 .1 .1 .1 .1 .1 .1 .1 .1 .0) (b .ensures) (omega (arith, c .before .before .before .before .before .before .before .before .before .before .before .before .before .before .before .before .before .before .before .before .before .if1 .left)) (e .result) (e .last .1 .1 .1 .1 .1 .1 .1 .0) (e .ensures (a .part .now))
+    finish-told (machineOf (a .s) (a .part .now) (a .edges .now) (a .levels .now) (a .entries .now)) (b .result) (a .part .now) (b .last .1 .1 .0) (b .last .1 .1 .1 .0) (b .last .1 .1 .1 .1 .1 .1 .0) (a .out .now) (b .last .1 .1 .1 .1 .1 .1 .1 .1 .1 .0) (b .ensures) (e .result) (e .last .1 .1 .1 .1 .1 .1 .1 .0) (e .ensures (a .part .now))
 
 pub finish-spec : {M : Type 1} → statement M
 finish-spec =
     tie.close
     (tie.spec
     last-line-requires
+    end-input-requires
+    add-result
     same-length
     same-length-2
     same-length-3
@@ -89,14 +68,4 @@ finish-spec =
     same-length-6
     same-length-7
     same-length-8
-    returns
-    end-input-requires
-    same-length-9
-    same-length-10
-    same-length-11
-    same-length-12
-    same-length-13
-    same-length-14
-    same-length-15
-    same-length-16
-    returns-2)
+    returns)

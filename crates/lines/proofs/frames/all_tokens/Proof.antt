@@ -1,3 +1,4 @@
+-- An odd line is no list of tokens. The invariant for an even one: the first i are tokens; the first that is not ends it.
 use mathlib.Core.Bool.{false}
 use borrow.Author.Tests.{not-true, not-false}
 use Rattle.lines.specs.Frames.{tokenCount}

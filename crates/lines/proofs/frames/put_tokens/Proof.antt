@@ -1,3 +1,4 @@
+-- The invariant: the first i tokens of the line stand at the front, the rest of the list is as before.
 use Rattle.lines.specs.Frames.{tokenCount}
 -- `lines::frames::put_tokens` meets its contract.
 use Prim.Native.Nat.{_-_, _≤_}

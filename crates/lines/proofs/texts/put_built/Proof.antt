@@ -1,3 +1,4 @@
+-- 81, three counts of four digits and a line feed, stored one behind the other, are one run of stores: the text of the built tables.
 use Prim.Native.Nat.{ℕ}
 use mathlib.Core.Path.{ap, _∙_}
 use mathlib.Core.List.{List}

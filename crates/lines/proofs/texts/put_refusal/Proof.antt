@@ -1,3 +1,4 @@
+-- FF, number, value and line feed, stored one behind the other, are one run of stores: the text of the refusal (`refusal-run`).
 use Prim.Native.Nat.{ℕ, _+_}
 use mathlib.Core.Path.{ap, _∙_}
 use mathlib.Core.List.{List}

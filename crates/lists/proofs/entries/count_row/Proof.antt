@@ -1,4 +1,4 @@
--- After u turns the hits among the first u positions are counted; they fit a byte.
+-- The invariant: `some` counts the hits among the first u places and is at most u, so that it fits a byte.
 use Prim.Native.Nat.{_-_, _≤_}
 use mathlib.Core.Path.{_≡_, sym}
 use native.Mathlib.Omega.{arith}

@@ -1,3 +1,4 @@
+-- The invariant: the entries of the first v rows have gone by, at most n a row. A row without bit l has none.
 use Prim.Native.Nat.{ℕ, _+_, _*_, _-_, _≤_}
 use mathlib.Core.Path.{_≡_, refl, sym, ap, _∙_}
 use mathlib.Core.Bool.{Bool}

@@ -1,4 +1,4 @@
--- A row goes by: without a hit not at all, by its count where nothing is written or compared, else one by one.
+-- Three ways: no hit in the row; nothing lent, so the count of hits is all; or the entries one by one.
 use Prim.Native.Nat.{_+_, _*_, _≤_}
 use native.Mathlib.Omega.{arith}
 use borrow.Author.Needs.{needs}

@@ -1,4 +1,4 @@
--- A first position with bit l counts 1, any other 0.
+-- The two ways of the test: 0 where the position is not a first one, else bit l.
 use borrow.Author.Needs.{needs}
 use Rattle.lists.proofs.Laws.Hits.{hit-none, hit-some}
 use Rattle.lists.proofs.entries.hit.Statement.{statement}

@@ -1,4 +1,4 @@
--- Sixteen positions with a count of 0 have no hit.
+-- Only a yes is promised: sixteen places lie in the row, and a count of 0 means that none of them is a hit.
 use Prim.Native.Nat.{ℕ}
 use mathlib.Core.Path.{_≡_}
 use native.Mathlib.Omega.{arith}

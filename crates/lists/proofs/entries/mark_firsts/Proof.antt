@@ -1,3 +1,4 @@
+-- The invariant: `most` is the largest of the first p numbers, and their bytes say which are first: those above all before them.
 use Prim.Native.Nat.{_-_, _≤_}
 use mathlib.Core.Path.{_≡_}
 use mathlib.Core.Bool.{cond}

@@ -1,3 +1,4 @@
+-- Six ways, a law each: differed before, the stored list ends, code differs, it ends after the code, class differs, both are the same.
 use borrow.Author.Needs.{needs}
 use Rattle.lists.proofs.Laws.Meeting as meeting
 use borrow.Author.Needs.{needs}

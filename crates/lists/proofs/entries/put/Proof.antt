@@ -1,3 +1,4 @@
+-- Two ways: no room for both numbers, and nothing is written; or the entry stands behind the k before it. The difference is `meet`'s.
 use mathlib.Core.Path.{refl}
 use borrow.Author.Needs.{needs}
 use Rattle.lists.proofs.Laws.Went as went

@@ -1,4 +1,4 @@
--- The entries of the first u positions of a row have gone by.
+-- The invariant: the entries of the first u places have gone by. Sixteen blank places, a later position and a missing bit add none.
 use Prim.Native.Nat.{ℕ, _+_, _*_, _-_, _≤_, _<_}
 use mathlib.Core.Path.{_≡_, refl, sym, ap, _∙_}
 use mathlib.Core.Bool.{Bool}

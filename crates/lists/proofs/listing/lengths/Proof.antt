@@ -1,3 +1,4 @@
+-- The invariant: the entries of the sequences of 1 to j symbols have gone by. The empty sequence is the identity, emitted before.
 use Prim.Native.Nat.{ℕ, _+_, _*_, _-_, _≤_}
 use mathlib.Core.Path.{_≡_, refl, _∙_}
 use mathlib.Core.List.{List, []}

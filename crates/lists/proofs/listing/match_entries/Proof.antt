@@ -1,3 +1,4 @@
+-- One walk from the marks of the edges and of the first positions: its progress is the count and the first difference (`compared`).
 use native.Mathlib.Omega.{arith}
 use borrow.Author.Needs.{needs}
 use Rattle.lists.proofs.Laws.Areas as areas

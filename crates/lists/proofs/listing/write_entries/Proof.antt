@@ -1,3 +1,4 @@
+-- A first walk over an empty list only counts; a second writes if there is room. Both walk the same entries of the edge table.
 use Prim.Native.Nat.{ℕ}
 use mathlib.Core.Path.{_≡_, refl, sym, ap}
 use mathlib.Core.List.{List, _++_}

@@ -1,8 +1,0 @@
--- What a link of a chain of refusals answers.
-use Rattle.rules.specs.Verdict.{Verdict, good, refuse}
-use Rattle.index.specs.declared.links.Link.{Link}
-use Rattle.index.specs.declared.links.Link.the-variants.{Good, Refused}
-
-unfoldable pub linkOf : Verdict → Link
-linkOf good = Good
-linkOf (refuse r) = Refused r
