@@ -80,15 +80,16 @@ pub fn mark_firsts(table: &[u32], n: usize, area: &mut [u8])
     }
 }
 
-// 1 where bit l of x is set and the position is a first one, else 0.
+// 1 where bit l of x is set and the position is a first one, else 0. The bit is taken in any case, so that a loop over this goes in vector registers.
 fn hit(x: u8, first: u8, l: usize) -> u8
     requires { ⌜ l < 8 ⌝ }
     ensures { λ r. ⌜ r ≡ cond (not (eqb first 0) && bitAt l x) 1 0 ⌝ }
 {
+    let bit = (x >> l) % 2;
     if first == 0 {
         return 0;
     }
-    (x >> l) % 2
+    bit
 }
 
 // How many of n positions are first ones and have bit l.
