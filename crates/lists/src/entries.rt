@@ -4,14 +4,14 @@ use super::relations::has_bit;
 use super::relations::labels_in;
 ghost use mathlib.Core.Path.{_≡_};
 ghost use mathlib.Core.List.{List, [], _∷_, _++_};
-ghost use mathlib.Core.Bool.{Bool, true, cond, not, _&&_};
-ghost use Prim.Native.Nat.{ℕ, _+_, _*_, _-_, _≤_, _<_};
+ghost use mathlib.Core.Bool.{Bool, cond, not, _&&_};
+ghost use Prim.Native.Nat.{ℕ, _+_, _*_, _≤_, _<_};
 ghost use lib.Dec.{eqb};
 ghost use lib.ListN.{length, getD};
 ghost use Rattle.rules.specs.Finite.{countBelow};
 ghost use Rattle.rules.specs.Accept.{difference};
 ghost use Rattle.lists.specs.Relations.{bitAt, Frame, Slot};
-ghost use Rattle.lists.specs.Entries.{Went, Firsts, Emitting, isHit, Blank, entriesRow, entriesRows};
+ghost use Rattle.lists.specs.Entries.{Went, Firsts, Emitting, isHit, entriesRow, entriesRows};
 
 // How far the entries have come: how many there are, and the first number at which they differ from the stored list.
 pub struct Progress {
@@ -80,15 +80,16 @@ pub fn mark_firsts(table: &[u32], n: usize, area: &mut [u8])
     }
 }
 
-// 1 where bit l of x is set and the position is a first one, else 0.
+// 1 where bit l of x is set and the position is a first one, else 0. The bit is taken in any case, so that a loop over this goes in vector registers.
 fn hit(x: u8, first: u8, l: usize) -> u8
     requires { ⌜ l < 8 ⌝ }
     ensures { λ r. ⌜ r ≡ cond (not (eqb first 0) && bitAt l x) 1 0 ⌝ }
 {
+    let bit = (x >> l) % 2;
     if first == 0 {
         return 0;
     }
-    (x >> l) % 2
+    bit
 }
 
 // How many of n positions are first ones and have bit l.
@@ -103,20 +104,6 @@ fn count_row(area: &[u8], from: usize, firsts: usize, l: usize, n: usize) -> usi
         u += 1;
     }
     some as usize
-}
-
-// Sixteen positions from u on lie in a row of n, and none of them is a first one with bit l.
-fn is_blank(area: &[u8], from: usize, firsts: usize, l: usize, u: usize, n: usize) -> bool
-    requires { ⌜ (l < 8) × (u ≤ n) × (n ≤ 128) × (from + (n - u) ≤ length (now area)) × (firsts + (n - u) ≤ length (now area)) ⌝ }
-    ensures { λ r. ⌜ (r ≡ true → Blank (now (area .entry)) from firsts l u n) ⌝ }
-{
-    if u % 16 != 0 {
-        return false;
-    }
-    if n < u + 16 {
-        return false;
-    }
-    count_row(area, from, firsts, l, 16) == 0
 }
 
 // The entries of row v of the relation that bit l of the block at `from` holds, one by one.
@@ -141,10 +128,6 @@ fn put_row(
     let mut u: usize = 0;
     while u < n {
         let p = row + u;
-        if is_blank(area, from + p, firsts + p, l, u, n) {
-            u += 16;
-            continue;
-        }
         if area[firsts + p] == 0 {
             u += 1;
             continue;

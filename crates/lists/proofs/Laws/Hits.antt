@@ -11,13 +11,10 @@ use lib.Dec.{eqb}
 use lib.ListN.{length, getD, length-append}
 use Rattle.rules.specs.Finite.{countBelow}
 use Rattle.rules.specs.Accept.{difference}
-use Rattle.rules.proofs.Laws.Tests.{not-true-of}
-use Rattle.rules.proofs.Laws.Counting.{count-lt}
 use Rattle.rules.proofs.Laws.Places.{place-lt}
 use Rattle.lists.specs.Relations.{bitAt, Slot}
-use Rattle.lists.specs.Entries.{Went, Firsts, isFirst, isHit, Blank, entriesRow}
+use Rattle.lists.specs.Entries.{Went, Firsts, isFirst, isHit, entriesRow}
 use Rattle.lists.proofs.Laws.Difference.{difference-is}
-use Rattle.lists.proofs.Laws.Emitting.{row-miss}
 use Rattle.lists.proofs.Laws.Went.{went-as, went-none}
 
 -- one position
@@ -52,12 +49,6 @@ unfolding countBelow
 count-le zero f = omega arith
 count-le (suc n) f = omega (arith, count-le n f, one-le (f n))
 
--- sixteen places without a hit
-pub blank-is : (w : List ℕ) (from firsts l u n : ℕ) {k : ℕ} → u + 16 ≤ n → k ≡ countBelow 16 (isHit w from firsts l) → k ≡ 0 → Blank w from firsts l u n
-blank-is w from firsts l u n {k} h e z =
-    let f = isHit w from firsts l in
-    record { inside = h; none = λ j hj. not-true-of (f j) (λ t. omega (arith, e, z, count-lt f j 16 hj t)) }
-
 -- the hits of a row are its entries
 told : (b : Bool) → not (eqb (cond {A = ℕ} b 1 0) 0) ≡ b
 told true = refl
@@ -74,26 +65,6 @@ module _ (n : ℕ) (t : List ℕ) (J : ℕ → ℕ → Bool) (code v from l : �
       let b : from + v * n + u ≡ from + (v * n + u) = omega arith in
       rw (a, b)
       (ap₂ _&&_ (ap (λ (z : ℕ). not (eqb z 0)) (firsts .mark (v * n + u) (place-lt n v u hv h)) ∙ told (isFirst t (v * n + u))) (slot .cell v u hv h))
-
-  hit-at : (u k : ℕ) → isHit w (from + (v * n + u)) (8 * (n * n) + (v * n + u)) l k ≡ false → hits (u + k) ≡ false
-  unfolding isHit
-  hit-at u k e =
-      let a : 8 * (n * n) + v * n + (u + k) ≡ 8 * (n * n) + (v * n + u) + k = omega arith in
-      let b : from + v * n + (u + k) ≡ from + (v * n + u) + k = omega arith in
-      rw (a, b) e
-
-  -- places without a hit give no entries
-  blank-to : (u k : ℕ) → u + k ≤ n → ((j : ℕ) → j < k → isHit w (from + (v * n + u)) (8 * (n * n) + (v * n + u)) l j ≡ false)
-      → entriesRow n t J code v u ≡ entriesRow n t J code v (u + k)
-  blank-to u zero h f = ap (λ (z : ℕ). entriesRow n t J code v z) (omega arith)
-  blank-to u (suc k) h f =
-      let e : u + k + 1 ≡ u + suc k = omega arith in
-      blank-to u k (omega arith) (λ j l. f j (omega arith))
-      ∙ row-miss n t J code v (u + k) (sym (hit-is (u + k) (omega arith)) ∙ hit-at u k (f k (omega arith)))
-      ∙ ap (λ (z : ℕ). entriesRow n t J code v z) e
-
-  pub row-blank : (u : ℕ) → Blank w (from + (v * n + u)) (8 * (n * n) + (v * n + u)) l u n → entriesRow n t J code v u ≡ entriesRow n t J code v (u + 16)
-  row-blank u b = blank-to u 16 (b .inside) (b .none)
 
   row-length : (k : ℕ) → k ≤ n → length (entriesRow n t J code v k) ≡ 2 * countBelow k hits
   unfolding entriesRow countBelow

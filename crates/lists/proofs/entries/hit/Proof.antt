@@ -7,14 +7,14 @@ use Rattle.lists.proofs.entries.hit.Tie as tie
 returns : tie.Need-returns
 returns c = hit-none (c .before .args .first) (c .before .args .l) (c .before .args .x) (c .if1 .taken)
 
-cast-result : tie.Need-cast-result
-cast-result c = search needs
+cast-bit : tie.Need-cast-bit
+cast-bit c = search needs
 
-shr-result : tie.Need-shr-result
-shr-result c = search needs
+shr-bit : tie.Need-shr-bit
+shr-bit c = search needs
 
 returns-2 : tie.Need-returns-2
 returns-2 c = hit-some (c .before .args .first) (c .before .args .l) (c .before .args .x) (c .if1 .left)
 
 pub hit-spec : {M : Type 1} → statement M
-hit-spec = tie.close (tie.spec returns cast-result shr-result returns-2)
+hit-spec = tie.close (tie.spec cast-bit shr-bit returns returns-2)
