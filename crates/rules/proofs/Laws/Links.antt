@@ -16,7 +16,6 @@ use Rattle.rules.proofs.Laws.Verdict.{when-good, good-when}
 -- 1
 pub record SizesFit (items labels : ℕ) : Type 0 where
   pub items-fit : items ≤ 128
-  pub labels-some : 0 < labels
   pub labels-fit : labels ≤ 8
 
 pub sizes-fit : (items labels : ℕ) → sizes items labels ≡ good → SizesFit items labels
@@ -26,7 +25,6 @@ sizes-fit n l e =
     let b = or-false-right (ltb 128 n) (eqb l 0 || ltb 8 l) a in
     record {
       items-fit = ltb-false 128 n (or-false-left (ltb 128 n) (eqb l 0 || ltb 8 l) a);
-      labels-some = some-of l (eqb-false l 0 (or-false-left (eqb l 0) (ltb 8 l) b));
       labels-fit = ltb-false 8 l (or-false-right (eqb l 0) (ltb 8 l) b);
     }
 

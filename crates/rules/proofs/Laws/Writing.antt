@@ -1,15 +1,15 @@
 -- A list after k stores in a row, and after m rows of n stores.
-use Prim.Native.Nat.{ℕ, zero, suc, _+_, _*_, _-_, _/_, _%_, _≤_, _<_}
+use Prim.Native.Nat.{ℕ, zero, suc, _+_, _*_, _-_, _≤_, _<_}
 use mathlib.Core.Path.{_≡_, refl, sym, ap, _∙_}
 use mathlib.Core.List.{List}
-use native.Mathlib.Nat.{suc-mul, zero-mul, not-suc-le-zero, zero-add, add-zero, add-suc, add-assoc, mod-lt, div-add-mod', div-lt-iff-lt-mul}
+use native.Mathlib.Nat.{suc-mul, zero-mul, not-suc-le-zero, zero-add, add-zero, add-suc, add-assoc}
 use native.Mathlib.Decide.{decLt}
 use native.Mathlib.Omega.{arith}
 use native.Mathlib.Numerals.{add-one}
 use lib.ListN.{length, getD, set, length-set, replicate}
-use lib.Seq.{getD-set-same, getD-set-other, ext-getD}
+use lib.Seq.{getD-set-same, getD-set-other}
 use Rattle.rules.specs.Writing.{fill, rows}
-use Rattle.rules.proofs.Laws.Places.{row-fits, n-pos}
+use Rattle.rules.proofs.Laws.Places.{row-fits}
 
 pub length-fill : (w : List ℕ) (b k : ℕ) (f : ℕ → ℕ) → length (fill w b k f) ≡ length w
 unfolding fill
@@ -123,23 +123,3 @@ unfolding rows
 fill-rows w b n zero f = rw zero-mul (sym (fill-none w b f))
 fill-rows w b n (suc m) f =
     rw (suc-mul, fill-add) (ap (λ (l : List ℕ). fill l (b + m * n) n (λ i. f (m * n + i))) (fill-rows w b n m f))
-
--- what a list is that holds f in the rows and elsewhere what w holds
-pub rows-of : (w r : List ℕ) (b n m : ℕ) (f : ℕ → ℕ → ℕ) → length r ≡ length w → b + m * n ≤ length w
-    → ((v u : ℕ) → v < m → u < n → getD r (b + v * n + u) 0 ≡ f v u)
-    → ((j : ℕ) → ((v u : ℕ) → v < m → u < n → j ≡ b + v * n + u → ⊥) → getD r j 0 ≡ getD w j 0)
-    → r ≡ rows w b n m f
-rows-of w r b n m f len fits inside outside = ext-getD 0 r (rows w b n m f) (len ∙ sym (length-rows w b n m f)) (λ j h. at j (decLt j b) (decLt j (b + m * n)))
-  where
-    pair : (v u : ℕ) → v < m → u < n → (j : ℕ) → j ≡ b + v * n + u → getD r j 0 ≡ getD (rows w b n m f) j 0
-    pair v u hv hu j e = rw e (inside v u hv hu ∙ sym (getD-rows-in w b n m f v u hv hu fits))
-
-    at : (j : ℕ) → Dec (j < b) → Dec (j < b + m * n) → getD r j 0 ≡ getD (rows w b n m f) j 0
-    at j (yes l) k = outside j (λ v u p q e. omega arith) ∙ sym (getD-rows-below w b n m f j l)
-    at j (no l) (no k) = outside j (λ v u p q e. omega (arith, row-fits n p)) ∙ sym (getD-rows-above w b n m f j (omega arith))
-    at j (no l) (yes k) =
-        let pos : 0 < n = n-pos n (j - b) m (omega arith) in
-        let hv : (j - b) / n < m = div-lt-iff-lt-mul pos .1 (omega arith) in
-        let hu : (j - b) % n < n = mod-lt (j - b) pos in
-        let e : j ≡ b + (j - b) / n * n + (j - b) % n = omega (arith, div-add-mod' (j - b) n) in
-        pair ((j - b) / n) ((j - b) % n) hv hu j e
