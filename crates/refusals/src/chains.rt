@@ -1,9 +1,9 @@
 // The orders of refusals of the three answers before any work. Each is left at the first link that refuses.
 use crate::links;
 use links::Link;
-use query::reading;
-use query::reading::Read;
 use rules::Refusal;
+use tokens::reading;
+use tokens::reading::Read;
 ghost use mathlib.Core.Path.{_≡_};
 ghost use Prim.Native.Nat.{ℕ, _*_, _≤_};
 ghost use mathlib.Core.List.{List};

@@ -7,9 +7,9 @@ use Rattle.rules.specs.Query.{diameter}
 use Rattle.rules.specs.Reading.{Reading, asks, fault}
 use Rattle.rules.specs.Verdict.{Verdict, good, refuse, _orElse_, wellRead, queryOf}
 use Rattle.rules.proofs.Laws.Verdict.{good-or-else}
-use Rattle.query.specs.declared.reading.Read.{Read}
-use Rattle.query.specs.declared.reading.Read.the-variants.{Query as Asks, Refused as NotRead}
-use Rattle.query.specs.Waiting.{readOf}
+use Rattle.tokens.specs.declared.reading.Read.{Read}
+use Rattle.tokens.specs.declared.reading.Read.the-variants.{Query as Asks, Refused as NotRead}
+use Rattle.tokens.specs.Waiting.{readOf}
 use Rattle.refusals.specs.declared.links.Link.{Link}
 use Rattle.refusals.specs.declared.links.Link.the-variants.{Good, Refused}
 use Rattle.refusals.specs.Links.{linkOf}

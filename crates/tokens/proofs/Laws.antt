@@ -1,0 +1,4 @@
+pub mod Tokens
+pub mod Waiting
+pub mod Reading
+pub mod Diameters
