@@ -2,12 +2,6 @@
 
 // direct, stored and class answer
 mod answers;
-// the level-k table among the levels
-mod top;
-// what build does once nothing refuses
-mod building;
-// what check does once nothing refuses
-mod checking;
 // build and check
 mod tables;
 

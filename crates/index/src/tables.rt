@@ -1,11 +1,11 @@
 // Build and check.
-use crate::building;
-use crate::checking;
 use links::Link;
 use refusals::links;
 use refusals::orders;
 use rules::Built;
 use rules::Checked;
+use work::building;
+use work::checking;
 ghost use Rattle.rules.specs.Promises.{Builds, Checks};
 ghost use Rattle.rules.specs.Calls.{buildCall, buildEnd, checkCall, checkEnd};
 

@@ -4,6 +4,7 @@ pub mod Finite
 pub mod Listing
 pub mod Counting
 pub mod Places
+pub mod Slices
 pub mod Writing
 pub mod Put
 pub mod Fronts

@@ -21,12 +21,9 @@ use Rattle.rules.specs.Verdict.{Verdict, good, refuse, _orElse_, when, fewSymbo
 use Rattle.rules.specs.Outcomes.{partOf, classBounds, runBounds, lookupAfter, lookupBounds}
 use Rattle.rules.proofs.Laws.Tests.{or-false-left, or-false-right}
 use Rattle.rules.proofs.Laws.Loops.{any-more, first-found}
+pub use Rattle.rules.proofs.Laws.Slices.{pred-is, take-from}
 use Rattle.query.proofs.Laws.Runs.{from-to, to-at-most, first-past-all}
 use Rattle.parts.specs.Parts.{Inside, isUnknown, firstUnknown}
-
-pub pred-is : (c : ℕ) → pred c ≡ c - 1
-pred-is zero = refl
-pred-is (suc c) = omega arith
 
 refused-part : {C : Type 0} {r : Refusal} {from to : ℕ} → Refused r ≡ Part from to → C
 refused-part e = let z : _≡_ {A = ℕ} 0 1 = cc in absurd (omega arith)
@@ -159,13 +156,6 @@ module _ (symbols entries : List ℕ) where
   lookup-part bounds q = record { within = λ from to e. after-part (fewSymbols symbols orElse knownSymbols symbols) from to (sym q ∙ e) }
 
 -- a part of a list, from the front of what is left or from the end of what is kept
-pub take-from : (from to : ℕ) (list : List ℕ) → from ≤ to → take (to - from) (drop from list) ≡ slice from to list
-take-from zero to list h = let e : to - 0 ≡ to = omega arith in ap (λ (n : ℕ). take n list) e
-take-from (suc from) zero list h = absurd (omega arith)
-take-from (suc from) (suc to) [] h = take-nil (suc to - suc from)
-take-from (suc from) (suc to) (x ∷ list) h =
-    let e : suc to - suc from ≡ to - from = omega arith in ap (λ (n : ℕ). take n (drop from list)) e ∙ take-from from to list (omega arith)
-
 pub part-numbers : (list : List ℕ) (from to : ℕ) (bounds : Bounds) (numbers : List ℕ) → bounds ≡ Part from to → numbers ≡ slice from to list → numbers ≡ partOf list bounds
 unfolding partOf
 part-numbers list from to bounds numbers e q = rw e q

@@ -1,7 +1,7 @@
 -- A link that refuses is the refusal of the call, nothing written; a good one is what `build_tables` asks, and its end is the call's.
 use borrow.Author.Needs.{needs}
 use Rattle.refusals.proofs.Laws.Links.{link-good, link-refused}
-use Rattle.index.proofs.Laws.Building.{builds-worked, builds-refused}
+use Rattle.work.proofs.Laws.Building.{builds-worked, builds-refused}
 use Rattle.index.proofs.tables.build.Statement.{statement}
 use Rattle.index.proofs.tables.build.Tie as tie
 

@@ -7,8 +7,8 @@ use Rattle.rules.specs.Outcomes.{checkRefusal, checkGraph}
 use Rattle.rules.proofs.Laws.Calls.{passed}
 use Rattle.rules.specs.Calls.{checkCall}
 use Rattle.refusals.proofs.Laws.Links.{link-good, link-refused}
-use Rattle.index.proofs.Laws.Counts.{square-small}
-use Rattle.index.proofs.Laws.Checking.{few-items, checks-worked, checks-refused}
+use Rattle.work.proofs.Laws.Counts.{square-small}
+use Rattle.work.proofs.Laws.Checking.{few-items, checks-worked, checks-refused}
 use Rattle.index.proofs.tables.check.Statement.{statement}
 use Rattle.index.proofs.tables.check.Tie as tie
 

@@ -1,10 +1,10 @@
 -- The part from (k-1)·n·n to k·n·n lies among the levels and is level k by definition (`level-part`).
 use native.Mathlib.Omega.{arith}
 use borrow.Author.Needs.{needs}
-use Rattle.index.proofs.Laws.Counts.{square-small}
-use Rattle.index.proofs.Laws.Top.{level-part, part-small}
-use Rattle.index.proofs.top.top_of.Statement.{statement}
-use Rattle.index.proofs.top.top_of.Tie as tie
+use Rattle.work.proofs.Laws.Counts.{square-small}
+use Rattle.work.proofs.Laws.Top.{level-part, part-small}
+use Rattle.work.proofs.top.top_of.Statement.{statement}
+use Rattle.work.proofs.top.top_of.Tie as tie
 
 sub-from : tie.Need-sub-from
 sub-from c = search needs

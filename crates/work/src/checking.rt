@@ -16,7 +16,7 @@ ghost use Rattle.rules.specs.Accept.{accepts};
 ghost use Rattle.rules.specs.Outcomes.{checkRefusal, told};
 ghost use Rattle.lists.specs.Relations.{Frame};
 ghost use Rattle.rules.specs.Calls.{indexOf, checkCall};
-ghost use Rattle.index.specs.Tables.{ListsStored, listsVerdict};
+ghost use Rattle.work.specs.Tables.{ListsStored, listsVerdict};
 
 // Whether two lists of these lengths whose first difference is d are not the same.
 fn differ(d: usize, one: usize, other: usize) -> bool

@@ -32,12 +32,12 @@ use Rattle.lists.proofs.Laws.Difference.{difference-is}
 use Rattle.lists.proofs.Laws.Numbers.{max-few}
 use Rattle.lists.proofs.Laws.Sorting.{upTo-le}
 use Rattle.rules.specs.Calls.{checkEnd}
-use Rattle.index.specs.Tables.{Standing, ListsStored, listsVerdict}
-use Rattle.index.proofs.Laws.Fronts.{cleared}
-use Rattle.index.proofs.Laws.Counts.{square-small}
-use Rattle.index.proofs.Laws.Edges.{edges-fit, edges-inside}
-use Rattle.index.proofs.Laws.Top.{accepted-contiguous}
-use Rattle.index.proofs.Laws.Building.{few-entries}
+use Rattle.work.specs.Tables.{Standing, ListsStored, listsVerdict}
+use Rattle.work.proofs.Laws.Fronts.{cleared}
+use Rattle.work.proofs.Laws.Counts.{square-small}
+use Rattle.work.proofs.Laws.Edges.{edges-fit, edges-inside}
+use Rattle.work.proofs.Laws.Top.{accepted-contiguous}
+use Rattle.work.proofs.Laws.Building.{few-entries}
 
 -- two lists by their first difference, and the length of the first
 module _ (xs ys : List ℕ) (f : ℕ → Refusal) (d m : ℕ) (first : d ≡ difference xs ys) (many : m ≡ length xs) where

@@ -2,10 +2,10 @@
 use borrow.Author.Needs.{needs}
 use mathlib.Core.Path.{_∙_}
 use native.Mathlib.Omega.{arith}
-use Rattle.index.proofs.Laws.Fronts.{cleared}
-use Rattle.index.proofs.Laws.Building.{few-entries, fills, starts-front, last-inside, last-start, order-front, many-is, lists-short, lists-fit}
-use Rattle.index.proofs.building.build_lists.Statement.{statement}
-use Rattle.index.proofs.building.build_lists.Tie as tie
+use Rattle.work.proofs.Laws.Fronts.{cleared}
+use Rattle.work.proofs.Laws.Building.{few-entries, fills, starts-front, last-inside, last-start, order-front, many-is, lists-short, lists-fit}
+use Rattle.work.proofs.building.build_lists.Statement.{statement}
+use Rattle.work.proofs.building.build_lists.Tie as tie
 
 fill-requires : tie.Need-fill-requires
 fill-requires c κs = fills _ _ _ _ _ _ _ _ _ (c .before .before .before .before .before .before .before .before .pre)

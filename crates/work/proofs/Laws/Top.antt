@@ -11,10 +11,10 @@ use Rattle.rules.specs.Rule.{Rule}
 use Rattle.rules.specs.Levels.{levelOf}
 use Rattle.rules.specs.Accept.{LevelAccepted}
 use Rattle.rules.proofs.Laws.Accepted.{right-at}
+use Rattle.rules.proofs.Laws.Slices.{pred-is, take-from}
 use Rattle.lists.specs.Sort.{Contiguous}
-use Rattle.index.specs.Tables.{Standing}
-use Rattle.index.proofs.Laws.Counts.{square-small}
-use Rattle.parts.proofs.Laws.Parts.{pred-is, take-from}
+use Rattle.work.specs.Tables.{Standing}
+use Rattle.work.proofs.Laws.Counts.{square-small}
 
 pub level-part : (n k : ℕ) (levels : List ℕ) → take (k * (n * n) - (k - 1) * (n * n)) (drop ((k - 1) * (n * n)) levels) ≡ levelOf n levels k
 unfolding levelOf

@@ -12,7 +12,7 @@ use Rattle.rules.proofs.Laws.Listing.{table-length}
 pub use Rattle.rules.proofs.Laws.Fronts.{front-in}
 pub use Rattle.lists.proofs.Laws.Areas.{frame-trans}
 use Rattle.lists.specs.Relations.{Frame}
-use Rattle.telling.proofs.Laws.Telling.{zeroed-again}
+use Rattle.area.proofs.Laws.Zeroed.{zeroed-again}
 
 -- a change of fewer places
 pub frame-wider : (lo hi hi′ : ℕ) (a b : List ℕ) → hi ≤ hi′ → Frame lo hi a b → Frame lo hi′ a b

@@ -1,9 +1,9 @@
 -- A level fault is the verdict; right levels make the stored level k fit for the lists, which then decide (`lists-decide`).
 use borrow.Author.Needs.{needs}
-use Rattle.index.proofs.Laws.Fronts.{frame-trans, past-frame}
-use Rattle.index.proofs.Laws.Checking.{told-good, few-labels, level-edges, level-labels, level-room, standing, lists-stored, levels-refused, lists-decide}
-use Rattle.index.proofs.checking.check_tables.Statement.{statement}
-use Rattle.index.proofs.checking.check_tables.Tie as tie
+use Rattle.work.proofs.Laws.Fronts.{frame-trans, past-frame}
+use Rattle.work.proofs.Laws.Checking.{told-good, few-labels, level-edges, level-labels, level-room, standing, lists-stored, levels-refused, lists-decide}
+use Rattle.work.proofs.checking.check_tables.Statement.{statement}
+use Rattle.work.proofs.checking.check_tables.Tie as tie
 
 check-levels-requires : tie.Need-check-levels-requires
 check-levels-requires c κs = let p = c .before .before .before .before .before .before .before .pre in (level-edges _ p, level-room _ p)

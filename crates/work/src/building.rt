@@ -10,7 +10,7 @@ ghost use Rattle.rules.specs.Graph.{graphOf};
 ghost use Rattle.rules.specs.Verdict.{good};
 ghost use Rattle.rules.specs.Outcomes.{buildRefusal, buildTables, indexFor};
 ghost use Rattle.rules.specs.Calls.{buildCall, buildEnd};
-ghost use Rattle.index.specs.Tables.{EndsAs, ListsReady, ListsWritten};
+ghost use Rattle.work.specs.Tables.{EndsAs, ListsReady, ListsWritten};
 
 // The lists of a level-k table; 6 leaves the entries.
 fn build_lists(

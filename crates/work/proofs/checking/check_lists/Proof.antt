@@ -3,11 +3,11 @@ use borrow.Author.Needs.{needs}
 use mathlib.Core.Path.{sym, _∙_}
 use native.Mathlib.Omega.{arith}
 use Rattle.rules.specs.declared.Refusal.the-variants.{ListFault, EntryFault}
-use Rattle.index.specs.Tables.{listsVerdict}
-use Rattle.index.proofs.Laws.Fronts.{frame-trans, frame-wider}
-use Rattle.index.proofs.Laws.Checking.{same-refused, same-good, told-refused, told-on, told-last, told-done, few-classes, starts-many, first-small, second-small, many-small, third-small}
-use Rattle.index.proofs.checking.check_lists.Statement.{statement}
-use Rattle.index.proofs.checking.check_lists.Tie as tie
+use Rattle.work.specs.Tables.{listsVerdict}
+use Rattle.work.proofs.Laws.Fronts.{frame-trans, frame-wider}
+use Rattle.work.proofs.Laws.Checking.{same-refused, same-good, told-refused, told-on, told-last, told-done, few-classes, starts-many, first-small, second-small, many-small, third-small}
+use Rattle.work.proofs.checking.check_lists.Statement.{statement}
+use Rattle.work.proofs.checking.check_lists.Tie as tie
 
 match-lists-requires : tie.Need-match-lists-requires
 match-lists-requires c κs = search needs

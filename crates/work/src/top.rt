@@ -1,7 +1,7 @@
 // The level-k table among the levels.
 ghost use mathlib.Core.Path.{_≡_};
 ghost use Rattle.rules.specs.Levels.{levelOf};
-ghost use Rattle.index.specs.Tables.{Standing};
+ghost use Rattle.work.specs.Tables.{Standing};
 
 pub fn top_of(levels: &[u32], n: usize, k: usize) -> &[u32]
     requires { ⌜ Standing n k (now levels) ⌝ }

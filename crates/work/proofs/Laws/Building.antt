@@ -29,11 +29,11 @@ use Rattle.lists.specs.Entries.{Listing, Listed}
 use Rattle.lists.proofs.Laws.Sorting.{upTo-le}
 use Rattle.lists.proofs.Laws.Numbers.{at-most, max-few}
 use Rattle.rules.specs.Calls.{buildEnd}
-use Rattle.index.specs.Tables.{EndsAs, Standing, ListsStored, ListsReady, ListsWritten}
-use Rattle.index.proofs.Laws.Fronts.{front-in, zeroed-past}
-use Rattle.index.proofs.Laws.Counts.{square-small, Few, entries-few}
-use Rattle.index.proofs.Laws.Edges.{edges-fit, edges-inside}
-use Rattle.index.proofs.Laws.Top.{accepted-contiguous}
+use Rattle.work.specs.Tables.{EndsAs, Standing, ListsStored, ListsReady, ListsWritten}
+use Rattle.work.proofs.Laws.Fronts.{front-in, zeroed-past}
+use Rattle.work.proofs.Laws.Counts.{square-small, Few, entries-few}
+use Rattle.work.proofs.Laws.Edges.{edges-fit, edges-inside}
+use Rattle.work.proofs.Laws.Top.{accepted-contiguous}
 
 -- the lists of a table
 module _ (n labels k : ℕ) (edges t area : List ℕ) (r : ListsStored n labels k edges t area) where

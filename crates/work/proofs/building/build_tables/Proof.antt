@@ -1,9 +1,9 @@
 -- The levels that were built give the table of level k, in order and with C its largest number; the lists of it complete the tables.
 use mathlib.Core.Path.{_∙_}
 use borrow.Author.Needs.{needs}
-use Rattle.index.proofs.Laws.Building.{few-labels, level-edges, level-labels, level-room, table-is, standing, lists-ready, tables-built}
-use Rattle.index.proofs.building.build_tables.Statement.{statement}
-use Rattle.index.proofs.building.build_tables.Tie as tie
+use Rattle.work.proofs.Laws.Building.{few-labels, level-edges, level-labels, level-room, table-is, standing, lists-ready, tables-built}
+use Rattle.work.proofs.building.build_tables.Statement.{statement}
+use Rattle.work.proofs.building.build_tables.Tie as tie
 
 build-levels-requires : tie.Need-build-levels-requires
 build-levels-requires c κs = let p = c .before .before .before .before .before .before .before .before .pre in (level-edges _ p, level-room _ p)

@@ -1,7 +1,7 @@
 -- The two ways of the first test: not `one` at all, else the test against `other`.
 use borrow.Author.Tests.{ne-eqb, eq-eqb}
-use Rattle.index.proofs.checking.differ.Statement.{statement}
-use Rattle.index.proofs.checking.differ.Tie as tie
+use Rattle.work.proofs.checking.differ.Statement.{statement}
+use Rattle.work.proofs.checking.differ.Tie as tie
 
 returns : tie.Need-returns
 returns c = rw (ne-eqb _ _ (c .if1 .taken))
