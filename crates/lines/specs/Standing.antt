@@ -2,9 +2,11 @@
 use Prim.Native.Nat.{ℕ, _+_, _%_, _≤_, _<_}
 use mathlib.Core.Path.{_≡_}
 use mathlib.Core.List.{List}
-use lib.ListN.{length, take, drop}
+use lib.ListN.{length, take, drop, replicate}
 use lib.Seq.{sets}
+use Rattle.rules.specs.declared.Built.{Built}
 use Rattle.rules.specs.Levels.{levelOf}
+use Rattle.rules.specs.Outcomes.{BuildCall, build}
 use Rattle.lines.specs.declared.Phase.{Phase}
 use Rattle.lines.specs.declared.Phase.the-variants.{Opening, Gathering, Answering, Stopped}
 use Rattle.lines.specs.declared.Progress.{Progress}
@@ -58,20 +60,33 @@ pub record Steps (f : Fed) (r : Taken) (part edges levels entries old new : List
   pub inside : r .many ≤ length old
   pub stands : Stands (r .state)
 
--- the lengths of the lists that the tables are built in
-pub record Rooms (edges levels starts order entries area out : List ℕ) : Type 0 where
+-- the lengths of the lent lists
+pub record Rooms (edges levels entries out : List ℕ) : Type 0 where
   pub edges-lent : length edges ≡ 3072
   pub levels-lent : length levels ≡ 4096
-  pub starts-lent : length starts ≡ 1025
-  pub order-lent : length order ≡ 1024
   pub entries-lent : length entries ≡ 4096
-  pub area-lent : length area ≡ 9216
   pub out-lent : length out ≡ 4118
 
--- and of the list of answers
-pub record Lent (edges levels starts order entries area answers out : List ℕ) : Type 0 where
-  pub rooms : Rooms edges levels starts order entries area out
-  pub answers-lent : length answers ≡ 1024
+-- the code's call of build: what stands in levels and entries, all other lent lists zero
+unfoldable pub callOf : Progress → List ℕ → List ℕ → List ℕ → BuildCall
+callOf p edges levels entries =
+    record {
+      items = p .items;
+      labels = p .labels;
+      k = p .k;
+      edges = edges;
+      levels = levels;
+      starts = replicate 1025 0;
+      order = replicate 1024 0;
+      entries = entries;
+      area = replicate 9216 0;
+    }
+
+-- the code's r, levels and entries are what build makes of a call
+pub record Made (c : BuildCall) (r : Built) (levels entries : List ℕ) : Type 0 where
+  pub result : r ≡ build c .result
+  pub levels-made : levels ≡ build c .levels
+  pub entries-made : entries ≡ build c .entries
 
 -- so many bytes of the output, from a place on, are the text
 pub record Written (text : List ℕ) (many at : ℕ) (old new : List ℕ) : Type 0 where
@@ -80,25 +95,21 @@ pub record Written (text : List ℕ) (many at : ℕ) (old new : List ℕ) : Type
   pub inside : at + many ≤ length old
 
 -- what a query is answered from: the level-k table and the entries lie within the lent lists, and the answer in the output
-pub record Ready (p : Progress) (levels entries area answers : List ℕ) (at : ℕ) (out : List ℕ) : Type 0 where
+pub record Ready (p : Progress) (levels entries : List ℕ) (at : ℕ) (out : List ℕ) : Type 0 where
   pub fits : Fits p
   pub some-level : 0 < p .k
   pub few-levels : p .k ≤ 4
   pub levels-lent : length levels ≡ 4096
   pub entries-lent : length entries ≡ 4096
-  pub area-lent : length area ≡ 9216
-  pub answers-lent : length answers ≡ 1024
   pub room : at + 4103 ≤ length out
 
 -- what a query is answered behind: at most the 81 line stands in the output
-pub record Asks (t : Moved) (line levels entries area answers out : List ℕ) : Type 0 where
+pub record Asks (t : Moved) (line levels entries out : List ℕ) : Type 0 where
   pub fits : Fits (t .progress)
   pub few : t .many ≤ 15
   pub short : length line ≤ 512
   pub levels-lent : length levels ≡ 4096
   pub entries-lent : length entries ≡ 4096
-  pub area-lent : length area ≡ 9216
-  pub answers-lent : length answers ≡ 1024
   pub out-lent : length out ≡ 4118
 
 -- the bytes from a place up to the next were taken, and what stands at the front of the output is what the machine printed for them

@@ -4,7 +4,7 @@ ghost use mathlib.Core.List.{List};
 ghost use Prim.Native.Nat.{ℕ, _≤_};
 ghost use lib.ListN.{length};
 ghost use Rattle.lines.specs.Machine.{isStopped, beginning, nextLine, endLine, keep, byte};
-ghost use Rattle.lines.specs.Standing.{stageOf, machineOf, Stands, Steps, Lent};
+ghost use Rattle.lines.specs.Standing.{stageOf, machineOf, Stands, Steps, Rooms};
 use crate::Phase;
 use crate::Progress;
 use crate::State;
@@ -50,32 +50,16 @@ pub fn end_line(
     part: &[u8],
     edges: &mut [u32],
     levels: &mut [u32],
-    starts: &mut [u32],
-    order: &mut [u32],
     entries: &mut [u32],
-    area: &mut [u8],
-    answers: &mut [u32],
     out: &mut [u8],
 ) -> Taken
-    requires { ⌜ Stands s × (length (now part) ≡ 512) × Lent (now edges) (now levels) (now starts) (now order) (now entries) (now area) (now answers) (now out) ⌝ }
+    requires { ⌜ Stands s × (length (now part) ≡ 512) × Rooms (now edges) (now levels) (now entries) (now out) ⌝ }
     ensures { λ r. ⌜ Steps (endLine (machineOf s (now (part .entry)) (now (edges .entry)) (now (levels .entry)) (now (entries .entry)))) r (now (part .entry)) (now (edges .exit)) (now (levels .exit)) (now (entries .exit)) (now (out .entry)) (now (out .exit)) ⌝ }
 {
     let number = next_line(s.lines);
     let held = s.held;
     let p = s.progress;
-    let moved = turns::on_line(
-        p,
-        number,
-        &part[..held],
-        edges,
-        levels,
-        starts,
-        order,
-        entries,
-        area,
-        answers,
-        out,
-    );
+    let moved = turns::on_line(p, number, &part[..held], edges, levels, entries, out);
     let progress = moved.progress;
     Taken {
         state: State {
@@ -139,14 +123,10 @@ pub fn take_byte(
     part: &mut [u8],
     edges: &mut [u32],
     levels: &mut [u32],
-    starts: &mut [u32],
-    order: &mut [u32],
     entries: &mut [u32],
-    area: &mut [u8],
-    answers: &mut [u32],
     out: &mut [u8],
 ) -> Taken
-    requires { ⌜ Stands s × (length (now part) ≡ 512) × Lent (now edges) (now levels) (now starts) (now order) (now entries) (now area) (now answers) (now out) ⌝ }
+    requires { ⌜ Stands s × (length (now part) ≡ 512) × Rooms (now edges) (now levels) (now entries) (now out) ⌝ }
     ensures { λ r. ⌜ Steps (byte (machineOf s (now (part .entry)) (now (edges .entry)) (now (levels .entry)) (now (entries .entry))) b) r (now (part .exit)) (now (edges .exit)) (now (levels .exit)) (now (entries .exit)) (now (out .entry)) (now (out .exit)) ⌝ }
 {
     let p = s.progress;
@@ -154,18 +134,7 @@ pub fn take_byte(
         return Taken { state: s, many: 0 };
     }
     if b == LINE_FEED {
-        return end_line(
-            s,
-            part,
-            edges,
-            levels,
-            starts,
-            order,
-            entries,
-            area,
-            answers,
-            out,
-        );
+        return end_line(s, part, edges, levels, entries, out);
     }
     keep_byte(s, b, part, out)
 }

@@ -15,7 +15,7 @@ use Rattle.lines.specs.declared.State.{State}
 use Rattle.lines.specs.declared.Taken.{Taken}
 use Rattle.lines.specs.declared.Advance.{Advance}
 use Rattle.lines.specs.Machine.{Stage, Turn, badFrame, onLine, isStopped, Machine, beginning, nextLine, Fed, turned, endLine, keep, byte, after, feed}
-use Rattle.lines.specs.Standing.{stageBy, stageOf, Fits, Comes, machineOf, Stands, Steps, Lent, Advances}
+use Rattle.lines.specs.Standing.{stageBy, stageOf, Fits, Comes, machineOf, Stands, Steps, Advances}
 use Rattle.lines.proofs.Laws.Stages.{comes-as, opening-answering}
 
 -- a line's number
