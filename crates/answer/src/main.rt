@@ -5,14 +5,15 @@ ghost use mathlib.Core.Path.{_≡_};
 ghost use Prim.Native.Nat.{ℕ, _<_};
 ghost use mathlib.Core.List.{List};
 ghost use lib.ListN.{length};
-ghost use Rattle.lines.specs.Machine.{feed};
-ghost use Rattle.lines.specs.Standing.{stageOf, machineOf, Stands, Rooms};
+ghost use Rattle.machine.specs.Machine.{feed};
+ghost use Rattle.machine.specs.Standing.{stageOf, machineOf, Stands};
+ghost use Rattle.lines.specs.Lent.{Rooms};
 ghost use Rattle.answer.specs.Reads.{goesOn, Reads, Behind, Ends};
 use libc::STDIN_FILENO;
 use libc::STDOUT_FILENO;
-use lines::State;
 use lines::feeding;
-use lines::steps;
+use machine::State;
+use machine::bytes;
 
 // What came in one read: each text is written before the next byte is taken.
 fn print_all(
@@ -54,10 +55,10 @@ fn goes_on(s: State, got: usize) -> bool
         return false;
     }
     let progress = s.progress;
-    !steps::is_stopped(progress)
+    !bytes::is_stopped(progress)
 }
 
-// One read.
+// One read, and what is printed for it.
 fn read_once(
     s: State,
     buffer: &mut [u8],
@@ -97,7 +98,7 @@ fn read_all(
     ensures { λ r. ⌜ Stands r × Behind (machineOf r (now (part .exit)) (now (edges .exit)) (now (levels .exit)) (now (entries .exit))) ⌝ }
 {
     let mut buffer = io::buffer();
-    let mut s = steps::start();
+    let mut s = bytes::start();
     let mut turns = u64::MAX;
     while 0 < turns {
         let t = read_once(s, &mut buffer, part, edges, levels, entries, out);

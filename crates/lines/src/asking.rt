@@ -4,13 +4,13 @@ ghost use Prim.Native.Nat.{_*_, _≤_};
 ghost use lib.ListN.{length, take};
 ghost use Rattle.rules.specs.Levels.{levelOf};
 ghost use Rattle.rules.specs.Outcomes.{stored};
-ghost use Rattle.lines.specs.Frames.{tokensOf};
-ghost use Rattle.lines.specs.Texts.{answerText};
-ghost use Rattle.lines.specs.Machine.{storedCall};
-ghost use Rattle.lines.specs.Standing.{Written, Ready};
-use crate::Progress;
-use crate::frames;
-use crate::texts;
+ghost use Rattle.machine.specs.Frames.{tokensOf};
+ghost use Rattle.machine.specs.Texts.{answerText};
+ghost use Rattle.machine.specs.Machine.{storedCall};
+ghost use Rattle.lines.specs.Lent.{Written, Ready};
+use machine::Progress;
+use machine::frames;
+use machine::texts;
 use rules::Answered;
 
 // Where the table of level k ends in the list of all levels.
@@ -61,7 +61,7 @@ fn ask_tokens(
     }
 }
 
-// The stored answer to the tokens of a query's line.
+// The tokens of a query's line stand in it as digits: they are read into a list of their own, and answered.
 pub fn ask(
     p: Progress,
     line: &[u8],

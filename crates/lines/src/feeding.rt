@@ -5,16 +5,18 @@ ghost use Prim.Native.Nat.{ℕ, _<_};
 ghost use mathlib.Core.Bool.{_&&_};
 ghost use lib.Dec.{eqb, ltb};
 ghost use lib.ListN.{length};
-ghost use Rattle.lines.specs.Machine.{lastLine, ended};
-ghost use Rattle.lines.specs.Machine.{finish as wholeEnd};
-ghost use Rattle.lines.specs.Standing.{stageOf, machineOf, Stands, Steps, Rooms, Written, Advances};
+ghost use Rattle.machine.specs.Machine.{lastLine, ended};
+ghost use Rattle.machine.specs.Machine.{finish as wholeEnd};
+ghost use Rattle.machine.specs.Standing.{stageOf, machineOf, Stands, Steps};
+ghost use Rattle.lines.specs.Lent.{Rooms, Written, Advances};
 use crate::Advance;
-use crate::Phase;
-use crate::State;
-use crate::Taken;
-use crate::stages;
 use crate::steps;
 use crate::turns;
+use machine::Phase;
+use machine::State;
+use machine::Taken;
+use machine::bytes;
+use machine::stages;
 
 // Whether bytes are left and no text is to be printed.
 fn goes_on(at: usize, end: usize, many: usize) -> bool
@@ -71,7 +73,7 @@ fn last_line(
     ensures { λ r. ⌜ Steps (lastLine (machineOf s (now (part .entry)) (now (edges .entry)) (now (levels .entry)) (now (entries .entry)))) r (now (part .entry)) (now (edges .exit)) (now (levels .exit)) (now (entries .exit)) (now (out .entry)) (now (out .exit)) ⌝ }
 {
     let p = s.progress;
-    if steps::is_stopped(p) {
+    if bytes::is_stopped(p) {
         return Taken { state: s, many: 0 };
     }
     if s.held == 0 {
@@ -96,7 +98,7 @@ fn end_input(
     let phase = p.phase;
     match phase {
         Phase::Opening => {
-            let number = steps::next_line(s.lines);
+            let number = bytes::next_line(s.lines);
             let moved = stages::bad_frame(number, out);
             moved.many
         }

@@ -2,17 +2,18 @@
 ghost use mathlib.Core.List.{List};
 ghost use Prim.Native.Nat.{ℕ, _≤_};
 ghost use lib.ListN.{length, take};
-ghost use Rattle.lines.specs.Frames.{tokensOf};
-ghost use Rattle.lines.specs.Machine.{Turn, builds, asked, badFrame, onQuery, onLine};
-ghost use Rattle.lines.specs.Standing.{stageOf, Fits, Comes, Rooms, Asks, callOf, Made};
-use crate::Frame;
-use crate::Moved;
-use crate::Phase;
-use crate::Progress;
+ghost use Rattle.machine.specs.Frames.{tokensOf};
+ghost use Rattle.machine.specs.Machine.{Turn, builds, asked, badFrame, onQuery, onLine};
+ghost use Rattle.machine.specs.Standing.{stageOf, Fits, Comes};
+ghost use Rattle.lines.specs.Lent.{Rooms, Asks, callOf, Made};
 use crate::asking;
-use crate::frames;
-use crate::stages;
-use crate::texts;
+use machine::Frame;
+use machine::Moved;
+use machine::Phase;
+use machine::Progress;
+use machine::frames;
+use machine::stages;
+use machine::texts;
 use rules::Built;
 
 // The tables, in the program's room. Starts, order and the working area do not outlive the call: queries read only levels and entries.
@@ -119,7 +120,7 @@ fn on_query(
     }
 }
 
-// The turn of a line.
+// What a line says decides its turn; one that says nothing is a bad frame at any stage.
 pub fn on_line(
     p: Progress,
     number: u32,

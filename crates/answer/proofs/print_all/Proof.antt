@@ -5,8 +5,9 @@ use native.Mathlib.Omega.{arith}
 use borrow.Author.Needs.{needs}
 use lib.ListN.{length, drop}
 use lib.Seq.{length-take-le}
-use Rattle.lines.specs.Machine.{feed}
-use Rattle.lines.specs.Standing.{machineOf, Stands, Rooms}
+use Rattle.machine.specs.Machine.{feed}
+use Rattle.machine.specs.Standing.{machineOf, Stands}
+use Rattle.lines.specs.Lent.{Rooms}
 use Rattle.lines.proofs.Laws.Feeding.{lent-kept}
 use Rattle.answer.proofs.Laws.{machine-after, all-fed}
 use Rattle.answer.proofs.print_all.Statement.{statement}

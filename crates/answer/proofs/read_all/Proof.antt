@@ -3,7 +3,8 @@ use mathlib.Core.Path.{_≡_, sym, _∙_}
 use native.Mathlib.Omega.{arith}
 use borrow.Author.Needs.{needs}
 use lib.ListN.{length}
-use Rattle.lines.specs.Standing.{machineOf, Stands, Rooms}
+use Rattle.machine.specs.Standing.{machineOf, Stands}
+use Rattle.lines.specs.Lent.{Rooms}
 use Rattle.lines.proofs.Laws.Feeding.{lent-kept}
 use Rattle.answer.specs.Reads.{Behind}
 use Rattle.answer.proofs.Laws.{behind-start, behind-more}

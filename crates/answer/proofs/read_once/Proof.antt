@@ -1,6 +1,6 @@
 -- `answer::read_once` meets its contract: the machine goes on by what stands at the front of the buffer.
 use borrow.Author.Needs.{needs}
-use Rattle.lines.specs.Standing.{machineOf}
+use Rattle.machine.specs.Standing.{machineOf}
 use Rattle.answer.proofs.Laws.{read-made}
 use Rattle.answer.proofs.read_once.Statement.{statement}
 use Rattle.answer.proofs.read_once.Tie as tie

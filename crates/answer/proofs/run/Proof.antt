@@ -1,6 +1,6 @@
 -- `answer::run` meets its contract: the last text is that of the machine behind all reads.
 use mathlib.Core.Path.{_∙_}
-use Rattle.lines.specs.Standing.{machineOf}
+use Rattle.machine.specs.Standing.{machineOf}
 use Rattle.lines.proofs.Laws.Feeding.{lent-kept}
 use Rattle.answer.proofs.Laws.{ends}
 use Rattle.answer.proofs.run.Statement.{statement}

@@ -23,13 +23,14 @@ use Rattle.rules.specs.Outcomes.{front, BuildCall, BuildEnd, buildRefusal, buil
 use Rattle.rules.proofs.Laws.Links.{LevelsFit, levels-fit}
 use Rattle.rules.proofs.Laws.Calls.{build-passed}
 use Rattle.rules.proofs.Laws.Levels.{levels-size, level-front}
-use Rattle.lines.specs.declared.Phase.the-variants.{Answering}
-use Rattle.lines.specs.declared.Progress.{Progress}
-use Rattle.lines.specs.declared.Moved.{Moved}
-use Rattle.lines.specs.Texts.{builtText}
-use Rattle.lines.specs.Machine.{answering, stops, buildCall, builtBy, builds}
-use Rattle.lines.specs.Standing.{stageBy, stageOf, Fits, Comes, callOf, Made}
-use Rattle.lines.proofs.Laws.Texts.{built-length, refusal-length}
+use Rattle.machine.specs.declared.Phase.the-variants.{Answering}
+use Rattle.machine.specs.declared.Progress.{Progress}
+use Rattle.machine.specs.declared.Moved.{Moved}
+use Rattle.machine.specs.Texts.{builtText}
+use Rattle.machine.specs.Machine.{answering, stops, buildCall, builtBy, builds}
+use Rattle.machine.specs.Standing.{stageBy, stageOf, Fits, Comes}
+use Rattle.lines.specs.Lent.{callOf, Made}
+use Rattle.machine.proofs.Laws.Texts.{built-length, refusal-length}
 use Rattle.lines.proofs.Laws.Asking.{room-same}
 
 refused-tables : {C : Type 0} {r : Refusal} {a b m : ℕ} → Refused r ≡ Tables a b m → C

@@ -10,13 +10,14 @@ use lib.Dec.{ltb, eqb}
 use lib.ListN.{length, getD, take, drop}
 use lib.Seq.{sets, sets-eq, take-at, drop-cons, length-take-le}
 use Rattle.rules.proofs.Laws.Tests.{and-left, and-right}
-use Rattle.lines.specs.declared.Phase.the-variants.{Opening, Gathering, Answering, Stopped}
-use Rattle.lines.specs.declared.Moved.{Moved}
-use Rattle.lines.specs.declared.State.{State}
-use Rattle.lines.specs.declared.Taken.{Taken}
-use Rattle.lines.specs.Machine.{Turn, builds, badFrame, isStopped, Machine, nextLine, Fed, endLine, byte, after, feed, lastBy, lastLine, ended}
-use Rattle.lines.specs.Standing.{stageBy, stageOf, Comes, machineOf, Stands, Steps, Rooms, Written}
-use Rattle.lines.proofs.Laws.Steps.{steps-as}
+use Rattle.machine.specs.declared.Phase.the-variants.{Opening, Gathering, Answering, Stopped}
+use Rattle.machine.specs.declared.Moved.{Moved}
+use Rattle.machine.specs.declared.State.{State}
+use Rattle.machine.specs.declared.Taken.{Taken}
+use Rattle.machine.specs.Machine.{Turn, builds, badFrame, isStopped, Machine, nextLine, Fed, endLine, byte, after, feed, lastBy, lastLine, ended}
+use Rattle.machine.specs.Standing.{stageBy, stageOf, Comes, machineOf, Stands, Steps}
+use Rattle.lines.specs.Lent.{Rooms, Written}
+use Rattle.machine.proofs.Laws.Steps.{steps-as}
 
 -- one byte of a list of bytes
 pub feed-at : (m : Machine) (l : List ℕ) (i : ℕ) → i < length l → feed m (drop i l) ≡ after (byte m (getD l i 0) .text) (feed (byte m (getD l i 0) .machine) (drop (i + 1) l))

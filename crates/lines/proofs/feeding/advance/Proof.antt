@@ -5,8 +5,8 @@ use mathlib.Core.Bool.{true≢false}
 use native.Mathlib.Omega.{arith}
 use borrow.Author.Needs.{needs}
 use lib.ListN.{length, drop}
-use Rattle.lines.specs.Machine.{feed}
-use Rattle.lines.specs.Standing.{machineOf}
+use Rattle.machine.specs.Machine.{feed}
+use Rattle.machine.specs.Standing.{machineOf}
 use Rattle.lines.proofs.Laws.Feeding.{Looped, fed-start, fed-open, step-printed, goes-open, lent-kept}
 use Rattle.lines.proofs.feeding.advance.Statement.{statement}
 use Rattle.lines.proofs.feeding.advance.Tie as tie

@@ -1,7 +1,7 @@
 -- `lines::feeding::finish` meets its contract: at most one of the two texts is there.
 use mathlib.Core.Path.{_∙_}
 use native.Mathlib.Omega.{arith}
-use Rattle.lines.specs.Standing.{machineOf}
+use Rattle.machine.specs.Standing.{machineOf}
 use Rattle.lines.proofs.Laws.Ending.{finish-told}
 use Rattle.lines.proofs.feeding.finish.Statement.{statement}
 use Rattle.lines.proofs.feeding.finish.Tie as tie

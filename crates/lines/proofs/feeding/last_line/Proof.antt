@@ -1,6 +1,6 @@
 -- `lines::feeding::last_line` meets its contract.
 use mathlib.Core.Path.{sym, _∙_}
-use Rattle.lines.proofs.Laws.Steps.{steps-as}
+use Rattle.machine.proofs.Laws.Steps.{steps-as}
 use Rattle.lines.proofs.Laws.Feeding.{last-stopped, last-empty, last-held}
 use borrow.Author.Needs.{needs}
 use Rattle.lines.proofs.feeding.last_line.Statement.{statement}

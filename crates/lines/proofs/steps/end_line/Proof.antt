@@ -2,7 +2,7 @@
 use mathlib.Core.Path.{sym}
 use native.Mathlib.Omega.{arith}
 use lib.Seq.{length-take-le}
-use Rattle.lines.proofs.Laws.Steps.{end-steps}
+use Rattle.machine.proofs.Laws.Steps.{end-steps}
 use borrow.Author.Needs.{needs}
 use Rattle.lines.proofs.steps.end_line.Statement.{statement}
 use Rattle.lines.proofs.steps.end_line.Tie as tie

@@ -1,6 +1,6 @@
 -- `lines::steps::take_byte` meets its contract.
 use mathlib.Core.Path.{sym, _∙_}
-use Rattle.lines.proofs.Laws.Steps.{steps-as, byte-stopped, byte-end, byte-more}
+use Rattle.machine.proofs.Laws.Steps.{steps-as, byte-stopped, byte-end, byte-more}
 use borrow.Author.Needs.{needs}
 use Rattle.lines.proofs.steps.take_byte.Statement.{statement}
 use Rattle.lines.proofs.steps.take_byte.Tie as tie

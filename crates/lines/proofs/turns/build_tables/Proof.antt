@@ -1,7 +1,7 @@
 -- `lines::turns::build_tables` meets its contract.
 use native.Mathlib.Omega.{arith}
 use lib.ListN.{take}
-use Rattle.lines.proofs.Laws.Stages.{comes-as}
+use Rattle.machine.proofs.Laws.Stages.{comes-as}
 use Rattle.lines.proofs.Laws.Building.{tables-turn, refused-turn, stop-few}
 use borrow.Author.Needs.{needs}
 use Rattle.lines.proofs.turns.build_tables.Statement.{statement}

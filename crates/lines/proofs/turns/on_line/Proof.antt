@@ -1,7 +1,7 @@
 -- `lines::turns::on_line` meets its contract.
 use mathlib.Core.Path.{sym, _∙_}
-use Rattle.lines.specs.Standing.{stageOf}
-use Rattle.lines.proofs.Laws.Stages.{comes-as}
+use Rattle.machine.specs.Standing.{stageOf}
+use Rattle.machine.proofs.Laws.Stages.{comes-as}
 use Rattle.lines.proofs.Laws.Turns.{line-sizes, line-edge, line-query, line-faulty}
 use borrow.Author.Needs.{needs}
 use Rattle.lines.proofs.turns.on_line.Statement.{statement}

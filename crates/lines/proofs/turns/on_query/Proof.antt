@@ -1,7 +1,7 @@
 -- `lines::turns::on_query` meets its contract.
 use mathlib.Core.Path.{_∙_}
-use Rattle.lines.specs.Frames.{tokensOf}
-use Rattle.lines.proofs.Laws.Stages.{comes-as}
+use Rattle.machine.specs.Frames.{tokensOf}
+use Rattle.machine.proofs.Laws.Stages.{comes-as}
 use Rattle.lines.proofs.Laws.Turns.{silent-comes, query-opening, query-gathering, query-answering, query-stopped}
 use borrow.Author.Needs.{needs}
 use Rattle.lines.proofs.turns.on_query.Statement.{statement}
