@@ -6,11 +6,12 @@ use mathlib.Core.Bool.{Bool, false, not}
 use native.Mathlib.Omega.{arith}
 use borrow.Author.Tests.{ne-eqb}
 use lib.ListN.{length, take, drop, drop-of-length-le}
-use Rattle.lines.specs.Machine.{Stage, isStopped, Machine, beginning, Fed, after, feed, finish}
-use Rattle.lines.specs.declared.State.{State}
-use Rattle.lines.specs.Standing.{stageOf, machineOf, Written}
+use Rattle.machine.specs.Machine.{Stage, isStopped, Machine, beginning, Fed, after, feed, finish}
+use Rattle.machine.specs.declared.State.{State}
+use Rattle.machine.specs.Standing.{stageOf, machineOf}
+use Rattle.lines.specs.Lent.{Written}
 use Rattle.lines.proofs.Laws.Feeding.{text-front}
-use Rattle.lines.proofs.Theorems.Pieces.{pieces}
+use Rattle.machine.proofs.Theorems.Pieces.{pieces}
 use Rattle.answer.specs.Reads.{goesOn, Reads, Behind, Ends}
 
 pub machine-after : (f g : Fed) (text : List ℕ) → f ≡ after text g → f .machine ≡ g .machine

@@ -5,7 +5,7 @@ use mathlib.Core.List.{List}
 use mathlib.Core.Bool.{Bool, true, false, not, cond}
 use lib.Dec.{eqb}
 use lib.ListN.{length, take}
-use Rattle.lines.specs.Machine.{Stage, isStopped, Machine, beginning, feed, finish}
+use Rattle.machine.specs.Machine.{Stage, isStopped, Machine, beginning, feed, finish}
 
 -- whether there is more to read behind a read: not where it handed over nothing, nor once the run has stopped
 unfoldable pub goesOn : ℕ → Stage → Bool

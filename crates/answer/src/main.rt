@@ -5,14 +5,15 @@ ghost use mathlib.Core.Path.{_≡_};
 ghost use Prim.Native.Nat.{ℕ, _<_};
 ghost use mathlib.Core.List.{List};
 ghost use lib.ListN.{length};
-ghost use Rattle.lines.specs.Machine.{feed};
-ghost use Rattle.lines.specs.Standing.{stageOf, machineOf, Stands, Lent};
+ghost use Rattle.machine.specs.Machine.{feed};
+ghost use Rattle.machine.specs.Standing.{stageOf, machineOf, Stands};
+ghost use Rattle.lines.specs.Lent.{Rooms};
 ghost use Rattle.answer.specs.Reads.{goesOn, Reads, Behind, Ends};
 use libc::STDIN_FILENO;
 use libc::STDOUT_FILENO;
-use lines::State;
 use lines::feeding;
-use lines::steps;
+use machine::State;
+use machine::bytes;
 
 // What came in one read: each text is written before the next byte is taken.
 fn print_all(
@@ -21,33 +22,16 @@ fn print_all(
     part: &mut [u8],
     edges: &mut [u32],
     levels: &mut [u32],
-    starts: &mut [u32],
-    order: &mut [u32],
     entries: &mut [u32],
-    area: &mut [u8],
-    answers: &mut [u32],
     out: &mut [u8],
 ) -> State
-    requires { ⌜ Stands s × (length (now part) ≡ 512) × Lent (now edges) (now levels) (now starts) (now order) (now entries) (now area) (now answers) (now out) ⌝ }
+    requires { ⌜ Stands s × (length (now part) ≡ 512) × Rooms (now edges) (now levels) (now entries) (now out) ⌝ }
     ensures { λ r. ⌜ Stands r × (machineOf r (now (part .exit)) (now (edges .exit)) (now (levels .exit)) (now (entries .exit)) ≡ feed (machineOf s (now (part .entry)) (now (edges .entry)) (now (levels .entry)) (now (entries .entry))) (now (input .entry)) .machine) ⌝ }
 {
     let mut t = s;
     let mut at: usize = 0;
     while at < input.len() {
-        let advanced = feeding::advance(
-            t,
-            input,
-            at,
-            part,
-            edges,
-            levels,
-            starts,
-            order,
-            entries,
-            area,
-            answers,
-            out,
-        );
+        let advanced = feeding::advance(t, input, at, part, edges, levels, entries, out);
         let many = advanced.many;
         io::write_all(STDOUT_FILENO, &out[..many]);
         t = advanced.state;
@@ -71,41 +55,25 @@ fn goes_on(s: State, got: usize) -> bool
         return false;
     }
     let progress = s.progress;
-    !steps::is_stopped(progress)
+    !bytes::is_stopped(progress)
 }
 
-// One read.
+// One read, and what is printed for it.
 fn read_once(
     s: State,
     buffer: &mut [u8],
     part: &mut [u8],
     edges: &mut [u32],
     levels: &mut [u32],
-    starts: &mut [u32],
-    order: &mut [u32],
     entries: &mut [u32],
-    area: &mut [u8],
-    answers: &mut [u32],
     out: &mut [u8],
 ) -> Turn
-    requires { ⌜ Stands s × (length (now part) ≡ 512) × Lent (now edges) (now levels) (now starts) (now order) (now entries) (now area) (now answers) (now out) ⌝ }
+    requires { ⌜ Stands s × (length (now part) ≡ 512) × Rooms (now edges) (now levels) (now entries) (now out) ⌝ }
     ensures { λ r. ⌜ Stands (r .state) × Reads (machineOf s (now (part .entry)) (now (edges .entry)) (now (levels .entry)) (now (entries .entry))) (machineOf (r .state) (now (part .exit)) (now (edges .exit)) (now (levels .exit)) (now (entries .exit))) (r .got) (r .more) (now (buffer .exit)) ⌝ }
 {
     let moved = libc::read(STDIN_FILENO, buffer);
     let got = io::count(moved, buffer);
-    let state = print_all(
-        s,
-        &buffer[..got],
-        part,
-        edges,
-        levels,
-        starts,
-        order,
-        entries,
-        area,
-        answers,
-        out,
-    );
+    let state = print_all(s, &buffer[..got], part, edges, levels, entries, out);
     let more = goes_on(state, got);
     Turn { state, got, more }
 }
@@ -123,33 +91,17 @@ fn read_all(
     part: &mut [u8],
     edges: &mut [u32],
     levels: &mut [u32],
-    starts: &mut [u32],
-    order: &mut [u32],
     entries: &mut [u32],
-    area: &mut [u8],
-    answers: &mut [u32],
     out: &mut [u8],
 ) -> State
-    requires { ⌜ (length (now part) ≡ 512) × Lent (now edges) (now levels) (now starts) (now order) (now entries) (now area) (now answers) (now out) ⌝ }
+    requires { ⌜ (length (now part) ≡ 512) × Rooms (now edges) (now levels) (now entries) (now out) ⌝ }
     ensures { λ r. ⌜ Stands r × Behind (machineOf r (now (part .exit)) (now (edges .exit)) (now (levels .exit)) (now (entries .exit))) ⌝ }
 {
     let mut buffer = io::buffer();
-    let mut s = steps::start();
+    let mut s = bytes::start();
     let mut turns = u64::MAX;
     while 0 < turns {
-        let t = read_once(
-            s,
-            &mut buffer,
-            part,
-            edges,
-            levels,
-            starts,
-            order,
-            entries,
-            area,
-            answers,
-            out,
-        );
+        let t = read_once(s, &mut buffer, part, edges, levels, entries, out);
         s = t.state;
         turns = turns_left(turns, t.more);
     }
@@ -161,61 +113,22 @@ fn run(
     part: &mut [u8],
     edges: &mut [u32],
     levels: &mut [u32],
-    starts: &mut [u32],
-    order: &mut [u32],
     entries: &mut [u32],
-    area: &mut [u8],
-    answers: &mut [u32],
     out: &mut [u8],
 ) -> usize
-    requires { ⌜ (length (now part) ≡ 512) × Lent (now edges) (now levels) (now starts) (now order) (now entries) (now area) (now answers) (now out) ⌝ }
+    requires { ⌜ (length (now part) ≡ 512) × Rooms (now edges) (now levels) (now entries) (now out) ⌝ }
     ensures { λ r. ⌜ Ends r (now (out .exit)) ⌝ }
 {
-    let s = read_all(
-        part,
-        edges,
-        levels,
-        starts,
-        order,
-        entries,
-        area,
-        answers,
-        out,
-    );
-    feeding::finish(
-        s,
-        part,
-        edges,
-        levels,
-        starts,
-        order,
-        entries,
-        area,
-        answers,
-        out,
-    )
+    let s = read_all(part, edges, levels, entries, out);
+    feeding::finish(s, part, edges, levels, entries, out)
 }
 
 fn main() {
     let mut part = [0u8; 512];
     let mut edges = [0u32; 3072];
     let mut levels = [0u32; 4096];
-    let mut starts = [0u32; 1025];
-    let mut order = [0u32; 1024];
     let mut entries = [0u32; 4096];
-    let mut area = [0u8; 9216];
-    let mut answers = [0u32; 1024];
     let mut out = [0u8; 4118];
-    let many = run(
-        &mut part,
-        &mut edges,
-        &mut levels,
-        &mut starts,
-        &mut order,
-        &mut entries,
-        &mut area,
-        &mut answers,
-        &mut out,
-    );
+    let many = run(&mut part, &mut edges, &mut levels, &mut entries, &mut out);
     io::write_all(STDOUT_FILENO, &out[..many]);
 }

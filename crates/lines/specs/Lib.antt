@@ -1,6 +1,1 @@
-pub mod Frames
-pub mod Texts
-pub mod Machine
-pub mod Lines
-pub mod Form
-pub mod Standing
+pub mod Lent

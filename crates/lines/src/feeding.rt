@@ -5,16 +5,18 @@ ghost use Prim.Native.Nat.{ℕ, _<_};
 ghost use mathlib.Core.Bool.{_&&_};
 ghost use lib.Dec.{eqb, ltb};
 ghost use lib.ListN.{length};
-ghost use Rattle.lines.specs.Machine.{lastLine, ended};
-ghost use Rattle.lines.specs.Machine.{finish as wholeEnd};
-ghost use Rattle.lines.specs.Standing.{stageOf, machineOf, Stands, Steps, Rooms, Lent, Written, Advances};
+ghost use Rattle.machine.specs.Machine.{lastLine, ended};
+ghost use Rattle.machine.specs.Machine.{finish as wholeEnd};
+ghost use Rattle.machine.specs.Standing.{stageOf, machineOf, Stands, Steps};
+ghost use Rattle.lines.specs.Lent.{Rooms, Written, Advances};
 use crate::Advance;
-use crate::Phase;
-use crate::State;
-use crate::Taken;
-use crate::stages;
 use crate::steps;
 use crate::turns;
+use machine::Phase;
+use machine::State;
+use machine::Taken;
+use machine::bytes;
+use machine::stages;
 
 // Whether bytes are left and no text is to be printed.
 fn goes_on(at: usize, end: usize, many: usize) -> bool
@@ -34,14 +36,10 @@ pub fn advance(
     part: &mut [u8],
     edges: &mut [u32],
     levels: &mut [u32],
-    starts: &mut [u32],
-    order: &mut [u32],
     entries: &mut [u32],
-    area: &mut [u8],
-    answers: &mut [u32],
     out: &mut [u8],
 ) -> Advance
-    requires { ⌜ Stands s × (from < length (now input)) × (length (now part) ≡ 512) × Lent (now edges) (now levels) (now starts) (now order) (now entries) (now area) (now answers) (now out) ⌝ }
+    requires { ⌜ Stands s × (from < length (now input)) × (length (now part) ≡ 512) × Rooms (now edges) (now levels) (now entries) (now out) ⌝ }
     ensures { λ r. ⌜ Advances (now (input .entry)) from (machineOf s (now (part .entry)) (now (edges .entry)) (now (levels .entry)) (now (entries .entry))) r (now (part .exit)) (now (edges .exit)) (now (levels .exit)) (now (entries .exit)) (now (out .exit)) ⌝ }
 {
     let mut t = s;
@@ -49,19 +47,7 @@ pub fn advance(
     let mut many: usize = 0;
     let mut more = true;
     while more {
-        let taken = steps::take_byte(
-            t,
-            input[i],
-            part,
-            edges,
-            levels,
-            starts,
-            order,
-            entries,
-            area,
-            answers,
-            out,
-        );
+        let taken = steps::take_byte(t, input[i], part, edges, levels, entries, out);
         t = taken.state;
         many = taken.many;
         i += 1;
@@ -80,35 +66,20 @@ fn last_line(
     part: &[u8],
     edges: &mut [u32],
     levels: &mut [u32],
-    starts: &mut [u32],
-    order: &mut [u32],
     entries: &mut [u32],
-    area: &mut [u8],
-    answers: &mut [u32],
     out: &mut [u8],
 ) -> Taken
-    requires { ⌜ Stands s × (length (now part) ≡ 512) × Lent (now edges) (now levels) (now starts) (now order) (now entries) (now area) (now answers) (now out) ⌝ }
+    requires { ⌜ Stands s × (length (now part) ≡ 512) × Rooms (now edges) (now levels) (now entries) (now out) ⌝ }
     ensures { λ r. ⌜ Steps (lastLine (machineOf s (now (part .entry)) (now (edges .entry)) (now (levels .entry)) (now (entries .entry)))) r (now (part .entry)) (now (edges .exit)) (now (levels .exit)) (now (entries .exit)) (now (out .entry)) (now (out .exit)) ⌝ }
 {
     let p = s.progress;
-    if steps::is_stopped(p) {
+    if bytes::is_stopped(p) {
         return Taken { state: s, many: 0 };
     }
     if s.held == 0 {
         return Taken { state: s, many: 0 };
     }
-    steps::end_line(
-        s,
-        part,
-        edges,
-        levels,
-        starts,
-        order,
-        entries,
-        area,
-        answers,
-        out,
-    )
+    steps::end_line(s, part, edges, levels, entries, out)
 }
 
 // At the end of input the tables are built if no query asked for them; an input with no line at all is a bad frame. Answers how many
@@ -117,25 +88,22 @@ fn end_input(
     s: State,
     edges: &[u32],
     levels: &mut [u32],
-    starts: &mut [u32],
-    order: &mut [u32],
     entries: &mut [u32],
-    area: &mut [u8],
     out: &mut [u8],
 ) -> usize
-    requires { ⌜ Stands s × Rooms (now edges) (now levels) (now starts) (now order) (now entries) (now area) (now out) ⌝ }
+    requires { ⌜ Stands s × Rooms (now edges) (now levels) (now entries) (now out) ⌝ }
     ensures { λ r. ⌜ ((part : List ℕ) → Written (ended (machineOf s part (now (edges .entry)) (now (levels .entry)) (now (entries .entry))) (stageOf (s .progress) (now (edges .entry)) (now (levels .entry)) (now (entries .entry)))) r 0 (now (out .entry)) (now (out .exit))) ⌝ }
 {
     let p = s.progress;
     let phase = p.phase;
     match phase {
         Phase::Opening => {
-            let number = steps::next_line(s.lines);
+            let number = bytes::next_line(s.lines);
             let moved = stages::bad_frame(number, out);
             moved.many
         }
         Phase::Gathering => {
-            let moved = turns::build_tables(p, edges, levels, starts, order, entries, area, out);
+            let moved = turns::build_tables(p, edges, levels, entries, out);
             moved.many
         }
         Phase::Answering => 0,
@@ -150,30 +118,15 @@ pub fn finish(
     part: &[u8],
     edges: &mut [u32],
     levels: &mut [u32],
-    starts: &mut [u32],
-    order: &mut [u32],
     entries: &mut [u32],
-    area: &mut [u8],
-    answers: &mut [u32],
     out: &mut [u8],
 ) -> usize
-    requires { ⌜ Stands s × (length (now part) ≡ 512) × Lent (now edges) (now levels) (now starts) (now order) (now entries) (now area) (now answers) (now out) ⌝ }
+    requires { ⌜ Stands s × (length (now part) ≡ 512) × Rooms (now edges) (now levels) (now entries) (now out) ⌝ }
     ensures { λ r. ⌜ Written (wholeEnd (machineOf s (now (part .entry)) (now (edges .entry)) (now (levels .entry)) (now (entries .entry)))) r 0 (now (out .entry)) (now (out .exit)) ⌝ }
 {
-    let taken = last_line(
-        s,
-        part,
-        edges,
-        levels,
-        starts,
-        order,
-        entries,
-        area,
-        answers,
-        out,
-    );
+    let taken = last_line(s, part, edges, levels, entries, out);
     let many = taken.many;
     let t = taken.state;
-    let rest = end_input(t, edges, levels, starts, order, entries, area, out);
+    let rest = end_input(t, edges, levels, entries, out);
     many + rest
 }

@@ -1,70 +1,10 @@
-// What `answer` does with its input: a line is read as a frame, the run goes on by one turn, and a text is printed.
+// What `answer` does with its input: a line goes on by one turn of the machine, with the tables, and a text is printed.
 pub mod asking; // a query, answered from the stored tables
 pub mod feeding; // the bytes up to the next text, and the end of the input
-pub mod frames; // what a line says
-pub mod stages; // what a line that is no query does
 pub mod steps; // a byte, and the line that it ends
-pub mod texts; // the lines of the output
 pub mod turns; // what any line does
 
-// The three numbers of a frame 01 or 02, or none.
-pub enum Fields {
-    Three(u32, u32, u32),
-    Wrong,
-}
-
-// What a line says.
-pub enum Frame {
-    // 01: items, labels and k
-    Sizes(u32, u32, u32),
-    // 02: source, target and label
-    Edge(u32, u32, u32),
-    // 03: tokens, which stand in the line
-    Query,
-    // any other line
-    Faulty,
-}
-
-// How far the run has come.
-pub enum Phase {
-    // no line yet
-    Opening,
-    // 01 was read
-    Gathering,
-    // the tables are built
-    Answering,
-    // the rest is unread
-    Stopped,
-}
-
-// The phase, what 01 said, and how many numbers of the edge list and of the entry list are in use.
-pub struct Progress {
-    pub phase: Phase,
-    pub items: u32,
-    pub labels: u32,
-    pub k: u32,
-    pub edges: usize,
-    pub entries: usize,
-}
-
-// What a line came to: the progress behind it, and how many bytes of text stand at the front of the output.
-pub struct Moved {
-    pub progress: Progress,
-    pub many: usize,
-}
-
-// What is kept between two bytes: the progress, the number of lines so far, and how many bytes of the line in hand are held.
-pub struct State {
-    pub progress: Progress,
-    pub lines: u32,
-    pub held: usize,
-}
-
-// What a byte came to: the state behind it, and how many bytes of text stand at the front of the output.
-pub struct Taken {
-    pub state: State,
-    pub many: usize,
-}
+use machine::State;
 
 // How far the input was taken: the state behind it, the place of the next byte, and how many bytes of text stand at the front of the output.
 pub struct Advance {

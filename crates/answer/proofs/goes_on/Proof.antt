@@ -1,6 +1,6 @@
 -- `answer::goes_on` meets its contract: by the two tests.
 use borrow.Author.Needs.{needs}
-use Rattle.lines.specs.Standing.{stageOf}
+use Rattle.machine.specs.Standing.{stageOf}
 use Rattle.answer.proofs.Laws.{no-more, some-more}
 use Rattle.answer.proofs.goes_on.Statement.{statement}
 use Rattle.answer.proofs.goes_on.Tie as tie

@@ -21,27 +21,14 @@ slice-aggregate-run-4 c = search needs
 slice-aggregate-run-5 : tie.Need-slice-aggregate-run-5
 slice-aggregate-run-5 c = search needs
 
-slice-aggregate-run-6 : tie.Need-slice-aggregate-run-6
-slice-aggregate-run-6 c = search needs
-
-slice-aggregate-run-7 : tie.Need-slice-aggregate-run-7
-slice-aggregate-run-7 c = search needs
-
-slice-aggregate-run-8 : tie.Need-slice-aggregate-run-8
-slice-aggregate-run-8 c = search needs
-
-slice-aggregate-run-9 : tie.Need-slice-aggregate-run-9
-slice-aggregate-run-9 c = search needs
-
 run-requires : tie.Need-run-requires
-run-requires c κs =
-    (search needs, record { rooms = record { edges-lent = search needs; levels-lent = search needs; starts-lent = search needs; order-lent = search needs; entries-lent = search needs; area-lent = search needs; out-lent = search needs }; answers-lent = search needs })
+run-requires c κs = (search needs, record { edges-lent = search needs; levels-lent = search needs; entries-lent = search needs; out-lent = search needs })
 
 array-share-prefix-out : tie.Need-array-share-prefix-out
-array-share-prefix-out c = let r = c .before .before .before .before .before .before .before .before .before .run in omega (arith, r .ensures .inside, r .kept .1 .1 .1 .1 .1 .1 .1 .1 .0)
+array-share-prefix-out c = let r = c .before .before .before .before .before .run in omega (arith, r .ensures .inside, r .kept .1 .1 .1 .1 .0)
 
 slice-aggregate-write-all : tie.Need-slice-aggregate-write-all
-slice-aggregate-write-all c = let r = c .before .before .before .before .before .before .before .before .before .before .run in sym (length-take-le (r .result) (r .last .1 .1 .1 .1 .1 .1 .1 .1 .0) (r .ensures .inside))
+slice-aggregate-write-all c = let r = c .before .before .before .before .before .before .run in sym (length-take-le (r .result) (r .last .1 .1 .1 .1 .0) (r .ensures .inside))
 
 write-all-requires : tie.Need-write-all-requires
 write-all-requires c κs = search needs
@@ -58,10 +45,6 @@ main-spec =
     slice-aggregate-run-3
     slice-aggregate-run-4
     slice-aggregate-run-5
-    slice-aggregate-run-6
-    slice-aggregate-run-7
-    slice-aggregate-run-8
-    slice-aggregate-run-9
     run-requires
     array-share-prefix-out
     slice-aggregate-write-all

@@ -3,7 +3,8 @@ use mathlib.Core.Path.{_≡_, sym, _∙_}
 use native.Mathlib.Omega.{arith}
 use borrow.Author.Needs.{needs}
 use lib.ListN.{length}
-use Rattle.lines.specs.Standing.{machineOf, Stands, Lent}
+use Rattle.machine.specs.Standing.{machineOf, Stands}
+use Rattle.lines.specs.Lent.{Rooms}
 use Rattle.lines.proofs.Laws.Feeding.{lent-kept}
 use Rattle.answer.specs.Reads.{Behind}
 use Rattle.answer.proofs.Laws.{behind-start, behind-more}
@@ -11,11 +12,11 @@ use Rattle.answer.proofs.read_all.Statement.{statement}
 use Rattle.answer.proofs.read_all.Tie as tie
 
 abbrev Inv-loop : tie.InvT-loop
-Inv-loop part₀ edges₀ levels₀ starts₀ order₀ entries₀ area₀ answers₀ out₀ buffer₀ s₀ turns₀ part edges levels starts order entries area answers out buffer s turns =
-    (length part ≡ 512) × Lent edges levels starts order entries area answers out × Stands s × Behind (machineOf s part edges levels entries) × (length buffer ≡ 4096)
+Inv-loop part₀ edges₀ levels₀ entries₀ out₀ buffer₀ s₀ turns₀ part edges levels entries out buffer s turns =
+    (length part ≡ 512) × Rooms edges levels entries out × Stands s × Behind (machineOf s part edges levels entries) × (length buffer ≡ 4096)
 
 abbrev μ-loop : tie.MeasureT-loop
-μ-loop part₀ edges₀ levels₀ starts₀ order₀ entries₀ area₀ answers₀ out₀ buffer₀ s₀ turns₀ part edges levels starts order entries area answers out buffer s turns = turns
+μ-loop part₀ edges₀ levels₀ entries₀ out₀ buffer₀ s₀ turns₀ part edges levels entries out buffer s turns = turns
 
 buffer-requires : tie.Need-buffer-requires Inv-loop μ-loop
 buffer-requires c κs = search needs
@@ -25,8 +26,8 @@ start-requires c κs = search needs
 
 loop-holds : tie.Need-loop-holds Inv-loop μ-loop
 loop-holds c =
-    let a = c .before .before .before .before .before .before .before .before .before .before .before .args in
-    let q = c .before .before .before .before .before .before .before .before .before .before .before .pre in
+    let a = c .before .before .before .before .before .before .before .args in
+    let q = c .before .before .before .before .before .before .before .pre in
     let s = c .start in
     (q .0, q .1, s .ensures .0, behind-start (machineOf (s .result) (a .part .now) (a .edges .now) (a .levels .now) (a .entries .now)) (s .ensures .1 (a .part .now) (a .edges .now) (a .levels .now) (a .entries .now)), sym (c .before .buffer .ensures))
 
@@ -34,47 +35,35 @@ slice-aggregate-read-once : tie.Need-slice-aggregate-read-once Inv-loop μ-loop
 slice-aggregate-read-once c = search needs
 
 read-once-requires : tie.Need-read-once-requires Inv-loop μ-loop
-read-once-requires c κs = let v = c .before .before .before .before .before .before .before .before .before .before .before .loop .inv in (v .2, v .0, v .1)
+read-once-requires c κs = let v = c .before .before .before .before .before .before .before .loop .inv in (v .2, v .0, v .1)
 
 turns-left-requires : tie.Need-turns-left-requires Inv-loop μ-loop
-turns-left-requires c κs = c .before .before .before .before .before .before .before .before .before .before .before .before .before .before .before .before .before .before .before .before .before .before .before .before .before .before .before .before .before .before .before .loop-test .taken
+turns-left-requires c κs = c .before .before .before .before .before .before .before .before .before .before .before .before .before .before .before .before .before .before .before .loop-test .taken
 
 loop-less : tie.Need-loop-less Inv-loop μ-loop
 loop-less c = c .turns-left .ensures
 
 loop-again : tie.Need-loop-again Inv-loop μ-loop
 loop-again c =
-    let r = c .before .before .before .before .before .before .before .before .before .before .before .before .before .before .before .before .before .before .before .before .before .read-once in
-    let l = c .before .before .before .before .before .before .before .before .before .before .before .before .before .before .before .before .before .before .before .before .before .before .before .before .before .before .before .before .before .before .before .before .before .loop in
+    let r = c .before .before .before .before .before .before .before .before .before .before .before .before .before .read-once in
+    let l = c .before .before .before .before .before .before .before .before .before .before .before .before .before .before .before .before .before .before .before .before .before .loop in
     let v = l .inv in
-    (r .kept .1 .1 .0 ∙ v .0, lent-kept (r .kept .1 .1 .1 .0) (r .kept .1 .1 .1 .1 .0) (r .kept .1 .1 .1 .1 .1 .0) (r .kept .1 .1 .1 .1 .1 .1 .0) (r .kept .1 .1 .1 .1 .1 .1 .1 .0) (r .kept .1 .1 .1 .1 .1 .1 .1 .1 .0) (r .kept .1 .1 .1 .1 .1 .1 .1 .1 .1 .0) (r .kept .1 .1 .1 .1 .1 .1 .1 .1 .1 .1 .0) (v .1), r .ensures .0, behind-more (machineOf (l .s) (l .part) (l .edges) (l .levels) (l .entries)) (machineOf (r .result .state) (r .last .1 .1 .0) (r .last .1 .1 .1 .0) (r .last .1 .1 .1 .1 .0) (r .last .1 .1 .1 .1 .1 .1 .1 .0)) (r .result .got) (r .result .more) (r .last .1 .0) (v .3) (r .ensures .1), r .kept .1 .0 ∙ v .4)
+    (r .kept .1 .1 .0 ∙ v .0, lent-kept (r .kept .1 .1 .1 .0) (r .kept .1 .1 .1 .1 .0) (r .kept .1 .1 .1 .1 .1 .0) (r .kept .1 .1 .1 .1 .1 .1 .0) (v .1), r .ensures .0, behind-more (machineOf (l .s) (l .part) (l .edges) (l .levels) (l .entries)) (machineOf (r .result .state) (r .last .1 .1 .0) (r .last .1 .1 .1 .0) (r .last .1 .1 .1 .1 .0) (r .last .1 .1 .1 .1 .1 .0)) (r .result .got) (r .result .more) (r .last .1 .0) (v .3) (r .ensures .1), r .kept .1 .0 ∙ v .4)
 
 same-length : tie.Need-same-length Inv-loop μ-loop
-same-length c = c .before .loop .inv .0 ∙ sym (c .before .before .before .before .before .before .before .before .before .before .before .before .before .pre .0)
+same-length c = c .before .loop .inv .0 ∙ sym (c .before .before .before .before .before .before .before .before .before .pre .0)
 
 same-length-2 : tie.Need-same-length-2 Inv-loop μ-loop
-same-length-2 c = c .before .loop .inv .1 .rooms .edges-lent ∙ sym (c .before .before .before .before .before .before .before .before .before .before .before .before .before .pre .1 .rooms .edges-lent)
+same-length-2 c = c .before .loop .inv .1 .edges-lent ∙ sym (c .before .before .before .before .before .before .before .before .before .pre .1 .edges-lent)
 
 same-length-3 : tie.Need-same-length-3 Inv-loop μ-loop
-same-length-3 c = c .before .loop .inv .1 .rooms .levels-lent ∙ sym (c .before .before .before .before .before .before .before .before .before .before .before .before .before .pre .1 .rooms .levels-lent)
+same-length-3 c = c .before .loop .inv .1 .levels-lent ∙ sym (c .before .before .before .before .before .before .before .before .before .pre .1 .levels-lent)
 
 same-length-4 : tie.Need-same-length-4 Inv-loop μ-loop
-same-length-4 c = c .before .loop .inv .1 .rooms .starts-lent ∙ sym (c .before .before .before .before .before .before .before .before .before .before .before .before .before .pre .1 .rooms .starts-lent)
+same-length-4 c = c .before .loop .inv .1 .entries-lent ∙ sym (c .before .before .before .before .before .before .before .before .before .pre .1 .entries-lent)
 
 same-length-5 : tie.Need-same-length-5 Inv-loop μ-loop
-same-length-5 c = c .before .loop .inv .1 .rooms .order-lent ∙ sym (c .before .before .before .before .before .before .before .before .before .before .before .before .before .pre .1 .rooms .order-lent)
-
-same-length-6 : tie.Need-same-length-6 Inv-loop μ-loop
-same-length-6 c = c .before .loop .inv .1 .rooms .entries-lent ∙ sym (c .before .before .before .before .before .before .before .before .before .before .before .before .before .pre .1 .rooms .entries-lent)
-
-same-length-7 : tie.Need-same-length-7 Inv-loop μ-loop
-same-length-7 c = c .before .loop .inv .1 .rooms .area-lent ∙ sym (c .before .before .before .before .before .before .before .before .before .before .before .before .before .pre .1 .rooms .area-lent)
-
-same-length-8 : tie.Need-same-length-8 Inv-loop μ-loop
-same-length-8 c = c .before .loop .inv .1 .answers-lent ∙ sym (c .before .before .before .before .before .before .before .before .before .before .before .before .before .pre .1 .answers-lent)
-
-same-length-9 : tie.Need-same-length-9 Inv-loop μ-loop
-same-length-9 c = c .before .loop .inv .1 .rooms .out-lent ∙ sym (c .before .before .before .before .before .before .before .before .before .before .before .before .before .pre .1 .rooms .out-lent)
+same-length-5 c = c .before .loop .inv .1 .out-lent ∙ sym (c .before .before .before .before .before .before .before .before .before .pre .1 .out-lent)
 
 returns : tie.Need-returns Inv-loop μ-loop
 returns c = let v = c .before .loop .inv in (v .2, v .3)
@@ -98,8 +87,4 @@ read-all-spec =
     same-length-3
     same-length-4
     same-length-5
-    same-length-6
-    same-length-7
-    same-length-8
-    same-length-9
     returns)

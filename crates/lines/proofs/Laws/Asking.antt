@@ -1,5 +1,5 @@
 -- A stored answer: what it says depends on how much is lent, not on what stands there.
-use Prim.Native.Nat.{ℕ, zero, suc, pred, _+_, _-_, _*_, _≤_, _<_}
+use Prim.Native.Nat.{ℕ, zero, suc, _+_, _-_, _*_, _≤_, _<_}
 use mathlib.Core.Path.{_≡_, refl, sym, ap, _∙_}
 use mathlib.Core.List.{List}
 use mathlib.Core.Bool.{Bool, true, false, cond}
@@ -7,7 +7,7 @@ use native.Mathlib.Nat.{mul-le-mul, suc-mul}
 use native.Mathlib.Omega.{arith}
 use borrow.Author.Tests.{leb-true}
 use lib.Dec.{leb}
-use lib.ListN.{length, take, drop, replicate, length-replicate, getD}
+use lib.ListN.{length, take, drop, replicate, length-replicate}
 use lib.Seq.{sets, take-at, ext-getD, getD-take, length-take-le}
 use Rattle.rules.specs.declared.Refusal.{Refusal}
 use Rattle.rules.specs.declared.Refusal.the-variants.{AnswerRoom}
@@ -15,19 +15,18 @@ use Rattle.rules.specs.declared.Answered.{Answered}
 use Rattle.rules.specs.declared.Answered.the-variants.{Answers, Refused}
 use Rattle.rules.specs.Finite.{tableBelow}
 use Rattle.rules.specs.Levels.{levelOf}
-use Rattle.rules.specs.Verdict.{Verdict, good, refuse, _orElse_, sizes, room, wellRead}
-use Rattle.rules.specs.Reading.{readTokens}
+use Rattle.rules.specs.Verdict.{Verdict, good, refuse, room}
 use Rattle.rules.specs.Writing.{fill}
-use Rattle.rules.specs.Outcomes.{front, AnswerEnd, answerAfter, StoredCall, storedRefusal, storedList, stored}
+use Rattle.rules.specs.Outcomes.{front, answerAfter, StoredCall, storedRefusal, storedList, stored}
 use Rattle.parts.proofs.Laws.Parts.{take-from}
 use Rattle.rules.proofs.Laws.Listing.{table-length, table-at}
 use Rattle.rules.proofs.Laws.Writing.{length-fill, getD-fill-front}
-use Rattle.lines.specs.Frames.{tokenCount, tokenAt, tokensOf}
-use Rattle.lines.proofs.Laws.Frames.{count-small}
-use Rattle.lines.specs.Texts.{answerBy, answerText, listText, refusalText}
-use Rattle.lines.specs.Machine.{storedCall}
-use Rattle.lines.specs.Standing.{Written}
-use Rattle.lines.proofs.Laws.Texts.{refusal-length, list-length}
+use Rattle.machine.specs.Frames.{tokenCount, tokenAt, tokensOf}
+use Rattle.machine.proofs.Laws.Frames.{count-small}
+use Rattle.machine.specs.Texts.{answerBy, answerText, listText, refusalText}
+use Rattle.machine.specs.Machine.{storedCall}
+use Rattle.lines.specs.Lent.{Written}
+use Rattle.machine.proofs.Laws.Texts.{refusal-length, list-length}
 
 refused-answers : {C : Type 0} {r : Refusal} {m : ℕ} → Refused r ≡ Answers m → C
 refused-answers e = let z : _≡_ {A = ℕ} 0 1 = cc in absurd (omega arith)
@@ -59,50 +58,32 @@ pub room-same : (a b : List ℕ) (n : ℕ) → length a ≡ length b → room a 
 unfolding room
 room-same a b n e = rw e
 
-result-by : (items : ℕ) (list answers others area spare : List ℕ) (v : Verdict) → length answers ≡ length others
-    → answerAfter items list answers area v .result ≡ answerAfter items list others spare v .result
-unfolding answerAfter
-result-by items list answers others area spare good e = rw e
-result-by items list answers others area spare (refuse r) e = refl
-
-module _ (items labels : ℕ) (table entries tokens answers area : List ℕ) where
+-- the code's call is the program's: its text, and how long its answer is
+module _ (items labels : ℕ) (table entries tokens : List ℕ) where
   abbrev pub call : StoredCall
-  call = record { items = items; labels = labels; table = table; entries = entries; tokens = tokens; answers = answers; area = area }
+  call =
+      record {
+        items = items;
+        labels = labels;
+        table = table;
+        entries = entries;
+        tokens = tokens;
+        answers = replicate 1024 0;
+        area = replicate 9216 0;
+      }
 
-  module _ (a : length answers ≡ 1024) (w : length area ≡ 9216) where
-    same-refusal : storedRefusal call ≡ storedRefusal (storedCall items labels table entries tokens)
-    unfolding storedRefusal storedCall
-    same-refusal =
-        ap (λ (v : Verdict). sizes items labels orElse wellRead (readTokens labels tokens) orElse v orElse room table (items * items))
-        (room-same area (replicate 9216 0) (9 * (items * items)) (w ∙ sym (length-replicate {A = ℕ} 9216 0)))
+  text-answers : (m : ℕ) (result : Answered) (after : List ℕ) → result ≡ stored call .result → after ≡ stored call .answers → result ≡ Answers m
+      → listText m (take m after) ≡ answerText (stored (storedCall items labels table entries tokens))
+  unfolding answerText answerBy storedCall
+  text-answers m result after r s e = ap (λ (l : List ℕ). listText m (take m l)) s ∙ ap (answerBy (stored call .answers)) (sym e ∙ r)
 
-    same-result : stored call .result ≡ stored (storedCall items labels table entries tokens) .result
-    unfolding stored storedCall storedList
-    same-result =
-        ap (λ (v : Verdict). answerAfter items (storedList call) answers area v .result) same-refusal
-        ∙ result-by items (storedList call) answers (replicate 1024 0) area (replicate 9216 0) (storedRefusal (storedCall items labels table entries tokens)) (a ∙ sym (length-replicate {A = ℕ} 1024 0))
+  text-refused : (r : Refusal) (result : Answered) → result ≡ stored call .result → result ≡ Refused r
+      → refusalText r ≡ answerText (stored (storedCall items labels table entries tokens))
+  unfolding answerText answerBy storedCall
+  text-refused r result e f = ap (answerBy (stored call .answers)) (sym f ∙ e)
 
-    same-list : storedList call ≡ storedList (storedCall items labels table entries tokens)
-    unfolding storedList storedCall
-    same-list = refl
-
-    -- the text is that of the program's call
-    pub text-answers : (m : ℕ) (result : Answered) (after : List ℕ) → result ≡ stored call .result → after ≡ stored call .answers → result ≡ Answers m
-        → listText m (take m after) ≡ answerText (stored (storedCall items labels table entries tokens))
-    unfolding answerText answerBy
-    text-answers m result after r s e =
-        let here : stored call .result ≡ Answers m = sym r ∙ e in
-        let there : stored (storedCall items labels table entries tokens) .result ≡ Answers m = sym same-result ∙ here in
-        ap (listText m) (ap (take m) s ∙ (listed call m here .cut ∙ (same-list ∙ sym (listed (storedCall items labels table entries tokens) m there .cut))))
-        ∙ ap (answerBy (stored (storedCall items labels table entries tokens) .answers)) (sym there)
-
-    pub text-refused : (r : Refusal) (result : Answered) → result ≡ stored call .result → result ≡ Refused r
-        → refusalText r ≡ answerText (stored (storedCall items labels table entries tokens))
-    unfolding answerText answerBy
-    text-refused r result e f = ap (answerBy (stored (storedCall items labels table entries tokens) .answers)) (sym f ∙ (e ∙ same-result))
-
-    pub many-fits : (m : ℕ) (result : Answered) → result ≡ stored call .result → result ≡ Answers m → m ≤ 1024
-    many-fits m result r e = omega (arith, listed call m (sym r ∙ e) .fits, a)
+  pub many-fits : (m : ℕ) (result : Answered) → result ≡ stored call .result → result ≡ Answers m → m ≤ 1024
+  many-fits m result r e = omega (arith, listed call m (sym r ∙ e) .fits, length-replicate {A = ℕ} 1024 0)
 
 -- the table of level k as a part of all levels
 pub table-part : (n k : ℕ) (levels : List ℕ) → 0 < k
@@ -136,30 +117,30 @@ unfolding tokensOf
 tokens-of line h = tokens-cut (replicate 255 0) (tokenCount line) (tokenAt line) (omega (arith, count-small line h, length-replicate {A = ℕ} 255 0))
 
 -- the table that the code cuts out, and the texts that it writes over it
-module _ (items labels k : ℕ) (levels entries tokens answers area : List ℕ) (to one : ℕ) where
+module _ (items labels k : ℕ) (levels entries tokens : List ℕ) (to one : ℕ) where
   abbrev table : List ℕ
   table = take (to - (to - one)) (drop (to - one) levels)
 
-  module _ (e : to ≡ k * (items * items)) (f : one ≡ 1 * (items * items)) (h : 0 < k) (a : length answers ≡ 1024) (w : length area ≡ 9216) where
+  module _ (e : to ≡ k * (items * items)) (f : one ≡ 1 * (items * items)) (h : 0 < k) where
     table-cut : table ≡ levelOf items levels k
     table-cut = rw (e, f) (table-part items k levels h)
 
     asked : answerText (stored (storedCall items labels table entries tokens)) ≡ answerText (stored (storedCall items labels (levelOf items levels k) entries tokens))
     asked = ap (λ (t : List ℕ). answerText (stored (storedCall items labels t entries tokens))) table-cut
 
-    pub written-answers : (m : ℕ) (result : Answered) (after : List ℕ) → result ≡ stored (call items labels table entries tokens answers area) .result
-        → after ≡ stored (call items labels table entries tokens answers area) .answers → result ≡ Answers m → m ≤ length after
+    pub written-answers : (m : ℕ) (result : Answered) (after : List ℕ) → result ≡ stored (call items labels table entries tokens) .result
+        → after ≡ stored (call items labels table entries tokens) .answers → result ≡ Answers m → m ≤ length after
         → (at : ℕ) (old new : List ℕ) → at + 4103 ≤ length old → new ≡ sets old at (listText m (take m after))
         → Written (answerText (stored (storedCall items labels (levelOf items levels k) entries tokens))) (7 + 4 * m) at old new
     written-answers m result after r s t l at old new o u =
         let text : listText m (take m after) ≡ answerText (stored (storedCall items labels (levelOf items levels k) entries tokens)) =
-        text-answers items labels table entries tokens answers area a w m result after r s t ∙ asked in
-        record { size = sym (list-length old after at m l) ∙ ap length text; bytes = u ∙ ap (sets old at) text; inside = omega (arith, many-fits items labels table entries tokens answers area a w m result r t) }
+        text-answers items labels table entries tokens m result after r s t ∙ asked in
+        record { size = sym (list-length old after at m l) ∙ ap length text; bytes = u ∙ ap (sets old at) text; inside = omega (arith, many-fits items labels table entries tokens m result r t) }
 
-    pub written-refusal : (r : Refusal) (result : Answered) → result ≡ stored (call items labels table entries tokens answers area) .result → result ≡ Refused r
+    pub written-refusal : (r : Refusal) (result : Answered) → result ≡ stored (call items labels table entries tokens) .result → result ≡ Refused r
         → (at : ℕ) (old new : List ℕ) → at + 4103 ≤ length old → new ≡ sets old at (refusalText r)
         → Written (answerText (stored (storedCall items labels (levelOf items levels k) entries tokens))) 13 at old new
     written-refusal r result s t at old new o u =
         let text : refusalText r ≡ answerText (stored (storedCall items labels (levelOf items levels k) entries tokens)) =
-        text-refused items labels table entries tokens answers area a w r result s t ∙ asked in
+        text-refused items labels table entries tokens r result s t ∙ asked in
         record { size = sym (refusal-length r) ∙ ap length text; bytes = u ∙ ap (sets old at) text; inside = omega arith }

@@ -1,5 +1,5 @@
 -- What build says of the program's call depends on how much is lent, not on what stands there.
-use Prim.Native.Nat.{ℕ, suc, _+_, _*_, _/_, _%_, _≤_, _<_}
+use Prim.Native.Nat.{ℕ, _*_, _/_, _≤_}
 use mathlib.Core.Path.{_≡_, refl, sym, ap, _∙_}
 use mathlib.Core.List.{List}
 use mathlib.Core.Bool.{Bool, true, false, cond}
@@ -15,19 +15,22 @@ use Rattle.rules.specs.declared.Built.the-variants.{Tables, Refused}
 use Rattle.rules.specs.Graph.{graphOf}
 use Rattle.rules.specs.Rule.{rule}
 use Rattle.rules.specs.Levels.{maxOf, levelOf, builtLevels}
-use Rattle.rules.specs.Verdict.{Verdict, good, refuse, _orElse_, sizes, levelCount, edgeCount, edgesFit, room}
+use Rattle.rules.specs.Verdict.{Verdict, good, refuse}
 use Rattle.rules.specs.Accept.{Index, topOf, builtIndex}
+use Rattle.rules.specs.Promises.{Builds}
+use Rattle.rules.specs.Calls.{buildCall as lentCall}
 use Rattle.rules.specs.Outcomes.{front, BuildCall, BuildEnd, buildRefusal, buildNothing, buildTables, indexFor, buildAfter, build}
 use Rattle.rules.proofs.Laws.Links.{LevelsFit, levels-fit}
 use Rattle.rules.proofs.Laws.Calls.{build-passed}
 use Rattle.rules.proofs.Laws.Levels.{levels-size, level-front}
-use Rattle.lines.specs.declared.Phase.the-variants.{Answering}
-use Rattle.lines.specs.declared.Progress.{Progress}
-use Rattle.lines.specs.declared.Moved.{Moved}
-use Rattle.lines.specs.Texts.{builtText}
-use Rattle.lines.specs.Machine.{Turn, answering, stops, buildCall, builtBy, builds}
-use Rattle.lines.specs.Standing.{stageBy, stageOf, Fits, Comes}
-use Rattle.lines.proofs.Laws.Texts.{built-length, refusal-length}
+use Rattle.machine.specs.declared.Phase.the-variants.{Answering}
+use Rattle.machine.specs.declared.Progress.{Progress}
+use Rattle.machine.specs.declared.Moved.{Moved}
+use Rattle.machine.specs.Texts.{builtText}
+use Rattle.machine.specs.Machine.{answering, stops, buildCall, builtBy, builds}
+use Rattle.machine.specs.Standing.{stageBy, stageOf, Fits, Comes}
+use Rattle.lines.specs.Lent.{callOf, Made}
+use Rattle.machine.proofs.Laws.Texts.{built-length, refusal-length}
 use Rattle.lines.proofs.Laws.Asking.{room-same}
 
 refused-tables : {C : Type 0} {r : Refusal} {a b m : ℕ} → Refused r ≡ Tables a b m → C
@@ -102,74 +105,75 @@ pub stop-few : (r : Refusal) (m : Moved) (edges levels entries old new : List �
 unfolding stops
 stop-few r m edges levels entries old new h = omega (arith, h .many, refusal-length r)
 
-module _ (p : Progress) (edges levels starts order entries area : List ℕ) where
+-- what build ends with, of which the program keeps the result, the levels and the entries
+pub made-by : (p : Progress) (edges levels entries : List ℕ) (e : BuildEnd)
+    → Builds (lentCall (p .items) (p .labels) (p .k) edges levels (replicate 1025 0) (replicate 1024 0) entries (replicate 9216 0)) e
+    → Made (callOf p edges levels entries) (e .result) (e .levels) (e .entries)
+unfolding callOf
+made-by p edges levels entries e h = record { result = h .result; levels-made = h .levels; entries-made = h .entries }
+
+module _ (p : Progress) (edges levels entries : List ℕ) where
   abbrev call : BuildCall
-  call =
-      record {
-        items = p .items;
-        labels = p .labels;
-        k = p .k;
-        edges = edges;
-        levels = levels;
-        starts = starts;
-        order = order;
-        entries = entries;
-        area = area;
-      }
+  call = callOf p edges levels entries
 
   abbrev own : BuildCall
   own = buildCall (p .items) (p .labels) (p .k) edges
 
-  module _ (ll : length levels ≡ 4096) (ls : length starts ≡ 1025) (lo : length order ≡ 1024) (le : length entries ≡ 4096) (la : length area ≡ 9216) where
+  module _ (ll : length levels ≡ 4096) (le : length entries ≡ 4096) where
     same-refusal : buildRefusal call ≡ buildRefusal own
-    unfolding buildRefusal buildCall
-    same-refusal =
-        let q = p .items * p .items in
-        rw (room-same area (replicate 9216 0) (9 * q) (la ∙ sym (length-replicate {A = ℕ} 9216 0)), room-same levels (replicate 4096 0) (p .k * q) (ll ∙ sym (length-replicate {A = ℕ} 4096 0)), room-same order (replicate 1024 0) q (lo ∙ sym (length-replicate {A = ℕ} 1024 0)), room-same starts (replicate 1025 0) (suc q) (ls ∙ sym (length-replicate {A = ℕ} 1025 0)))
+    unfolding buildRefusal buildCall callOf
+    same-refusal = rw (room-same levels (replicate 4096 0) (p .k * (p .items * p .items)) (ll ∙ sym (length-replicate {A = ℕ} 4096 0)))
 
     same-index : indexFor call ≡ indexFor own
-    unfolding indexFor buildCall
+    unfolding indexFor buildCall callOf
     same-index = refl
 
-    same-entries : length entries ≡ length (own .entries)
-    unfolding buildCall
+    same-entries : length (call .entries) ≡ length (own .entries)
+    unfolding buildCall callOf
     same-entries = le ∙ sym (length-replicate {A = ℕ} 4096 0)
 
     same-result : build call .result ≡ build own .result
     unfolding build
     same-result = ap (λ (v : Verdict). buildAfter call v .result) same-refusal ∙ result-by call own (buildRefusal own) same-index same-entries
 
-    module _ (result : Built) (r : result ≡ build call .result) where
+    module _ (result : Built) (levels′ entries′ : List ℕ) (made : Made call result levels′ entries′) where
       pub refused-turn : (refusal : Refusal) → result ≡ Refused refusal → builds (p .items) (p .labels) (p .k) edges ≡ stops refusal
-      refused-turn refusal e = builds-refused (p .items) (p .labels) (p .k) edges refusal (sym same-result ∙ (sym r ∙ e))
+      refused-turn refusal e = builds-refused (p .items) (p .labels) (p .k) edges refusal (sym same-result ∙ (sym (made .result) ∙ e))
 
       module _ (a b m : ℕ) (e : result ≡ Tables a b m) (f : Fits p) where
         here : build call .result ≡ Tables a b m
-        here = sym r ∙ e
+        here = sym (made .result) ∙ e
 
         there : build own .result ≡ Tables a b m
         there = sym same-result ∙ here
 
         level-same : levelOf (p .items) (build call .levels) (p .k) ≡ levelOf (p .items) (build own .levels) (p .k)
-        unfolding buildCall
+        unfolding buildCall callOf
         level-same =
             level-built call a b m here ∙ (ap (λ (x : Index). levelOf (p .items) (x .levels) (p .k)) same-index ∙ sym (level-built own a b m there))
 
         entries-same : take (2 * m) (build call .entries) ≡ take (2 * m) (build own .entries)
         entries-same = entries-built call a b m here ∙ (ap (λ (x : Index). take (2 * m) (x .entries)) same-index ∙ sym (entries-built own a b m there))
 
-        pub tables-turn : (whole levels′ entries′ old new : List ℕ) → levels′ ≡ build call .levels → entries′ ≡ build call .entries
-            → new ≡ sets old 0 (builtText a b m) → 15 ≤ length old
+        entries-few : 2 * m ≤ 4096
+        unfolding callOf
+        entries-few = omega (arith, many-built call a b m here, le)
+
+        levels-some : LevelsFit (p .k)
+        unfolding callOf
+        levels-some = levels-built call a b m here
+
+        pub tables-turn : (whole old new : List ℕ) → new ≡ sets old 0 (builtText a b m) → 15 ≤ length old
             → Comes (builds (p .items) (p .labels) (p .k) edges)
             (record { progress = record { phase = Answering; items = p .items; labels = p .labels; k = p .k; edges = p .edges; entries = 2 * m }; many = 15 })
             whole levels′ entries′ old new
         unfolding stageOf stageBy
-        tables-turn whole levels′ entries′ old new v w t o =
+        tables-turn whole old new t o =
             rw (builds-tables (p .items) (p .labels) (p .k) edges a b m there)
             (record {
               stage =
-                  ap (λ (l : List ℕ). answering (p .items) (p .labels) l (take (2 * m) entries′)) (ap (λ (l : List ℕ). levelOf (p .items) l (p .k)) v ∙ level-same)
-                  ∙ ap (answering (p .items) (p .labels) (levelOf (p .items) (build own .levels) (p .k))) (ap (take (2 * m)) w ∙ entries-same);
+                  ap (λ (l : List ℕ). answering (p .items) (p .labels) l (take (2 * m) entries′)) (ap (λ (l : List ℕ). levelOf (p .items) l (p .k)) (made .levels-made) ∙ level-same)
+                  ∙ ap (answering (p .items) (p .labels) (levelOf (p .items) (build own .levels) (p .k))) (ap (take (2 * m)) (made .entries-made) ∙ entries-same);
               many = sym (built-length a b m);
               text = t;
               inside = o;
@@ -178,7 +182,7 @@ module _ (p : Progress) (edges levels starts order entries area : List ℕ) wher
                     items-fit = f .items-fit;
                     whole = f .whole;
                     edges-fit = f .edges-fit;
-                    entries-fit = omega (arith, many-built call a b m here, le);
-                    level-fits = λ q. (levels-built call a b m here .some-level, levels-built call a b m here .few-levels);
+                    entries-fit = entries-few;
+                    level-fits = λ q. (levels-some .some-level, levels-some .few-levels);
                   };
             })

@@ -11,12 +11,13 @@ use lib.Seq.{sets}
 use Rattle.rules.specs.declared.Built.{Built}
 use Rattle.rules.specs.declared.Built.the-variants.{Tables, Refused}
 use Rattle.rules.specs.Outcomes.{BuildEnd, build}
-use Rattle.lines.specs.declared.Frame.{Frame}
-use Rattle.lines.specs.declared.Frame.the-variants.{Sizes, Edge, Query, Faulty}
-use Rattle.lines.specs.declared.Taken.{Taken}
-use Rattle.lines.specs.Frames.{frameOf, tokensOf}
-use Rattle.lines.specs.Machine.{Stage, opening, gathering, answering, stopped, isStopped, Turn, silent, stops, buildCall, builtBy, builds, onSizes, onEdge, asked, onQuery, onFrame, badFrame, onLine, Machine, nextLine, Fed, turned, endLine, lastBy, lastLine, ended, finish}
-use Rattle.lines.specs.Standing.{stageOf, machineOf, Steps, Written}
+use Rattle.machine.specs.declared.Frame.{Frame}
+use Rattle.machine.specs.declared.Frame.the-variants.{Sizes, Edge, Query, Faulty}
+use Rattle.machine.specs.declared.Taken.{Taken}
+use Rattle.machine.specs.Frames.{frameOf, tokensOf}
+use Rattle.machine.specs.Machine.{Stage, opening, gathering, answering, stopped, isStopped, Turn, silent, stops, buildCall, builtBy, builds, onSizes, onEdge, asked, onQuery, onFrame, badFrame, onLine, Machine, nextLine, Fed, turned, endLine, lastBy, lastLine, ended, finish}
+use Rattle.machine.specs.Standing.{stageOf, machineOf, Steps}
+use Rattle.lines.specs.Lent.{Written}
 
 -- a turn prints nothing, or leaves nothing to print at the end
 abbrev Quiet : Turn → Type 0

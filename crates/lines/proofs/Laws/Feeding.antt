@@ -1,23 +1,23 @@
 -- Bytes taken one after the other, and the end of the input.
-use Prim.Native.Nat.{ℕ, suc, _+_, _≤_, _<_}
+use Prim.Native.Nat.{ℕ, _+_, _≤_, _<_}
 use mathlib.Core.Path.{_≡_, refl, sym, ap, _∙_}
-use mathlib.Core.List.{List, [], _∷_, _++_}
+use mathlib.Core.List.{List, [], _∷_}
 use mathlib.Core.Bool.{Bool, true, false, _&&_}
 use borrow.Author.Tests.{ltb-true, eqb-true, lt-ltb, le-ltb}
 use native.Mathlib.Numerals.{add-one}
 use native.Mathlib.Omega.{arith}
 use lib.Dec.{ltb, eqb}
-use lib.ListN.{length, getD, take, drop, drop-of-length-le}
-use lib.Seq.{sets, sets-eq, take-at, drop-cons, length-take-le, length-sets}
+use lib.ListN.{length, getD, take, drop}
+use lib.Seq.{sets, sets-eq, take-at, drop-cons, length-take-le}
 use Rattle.rules.proofs.Laws.Tests.{and-left, and-right}
-use Rattle.lines.specs.declared.Phase.the-variants.{Opening, Gathering, Answering, Stopped}
-use Rattle.lines.specs.declared.Moved.{Moved}
-use Rattle.lines.specs.declared.State.{State}
-use Rattle.lines.specs.declared.Taken.{Taken}
-use Rattle.lines.specs.declared.Advance.{Advance}
-use Rattle.lines.specs.Machine.{Stage, Turn, builds, badFrame, isStopped, Machine, nextLine, Fed, endLine, byte, after, feed, lastBy, lastLine, ended}
-use Rattle.lines.specs.Standing.{stageBy, stageOf, Comes, machineOf, Stands, Steps, Lent, Written, Advances}
-use Rattle.lines.proofs.Laws.Steps.{steps-as}
+use Rattle.machine.specs.declared.Phase.the-variants.{Opening, Gathering, Answering, Stopped}
+use Rattle.machine.specs.declared.Moved.{Moved}
+use Rattle.machine.specs.declared.State.{State}
+use Rattle.machine.specs.declared.Taken.{Taken}
+use Rattle.machine.specs.Machine.{Turn, builds, badFrame, isStopped, Machine, nextLine, Fed, endLine, byte, after, feed, lastBy, lastLine, ended}
+use Rattle.machine.specs.Standing.{stageBy, stageOf, Comes, machineOf, Stands, Steps}
+use Rattle.lines.specs.Lent.{Rooms, Written}
+use Rattle.machine.proofs.Laws.Steps.{steps-as}
 
 -- one byte of a list of bytes
 pub feed-at : (m : Machine) (l : List ℕ) (i : ℕ) → i < length l → feed m (drop i l) ≡ after (byte m (getD l i 0) .text) (feed (byte m (getD l i 0) .machine) (drop (i + 1) l))
@@ -30,12 +30,12 @@ text-front text old new n e h w =
     ap (take n) (w ∙ sets-eq text old 0 (omega (arith, e))) ∙ take-at text (drop (0 + length text) old) n (sym e)
 
 -- what the loop keeps: what was printed before the rest of the input, fed to the machine, is what it was to be
-pub record Looped (input : List ℕ) (from i : ℕ) (t : State) (many : ℕ) (more : Bool) (part edges levels starts order entries area answers out : List ℕ) (goal : Fed) : Type 0 where
+pub record Looped (input : List ℕ) (from i : ℕ) (t : State) (many : ℕ) (more : Bool) (part edges levels entries out : List ℕ) (goal : Fed) : Type 0 where
   pub behind : from ≤ i
   pub within : i ≤ length input
   pub stands : Stands t
   pub part-lent : length part ≡ 512
-  pub lent : Lent edges levels starts order entries area answers out
+  pub lent : Rooms edges levels entries out
   pub inside : many ≤ length out
   pub fed : goal ≡ after (take many out) (feed (machineOf t part edges levels entries) (drop i input))
   pub ready : more ≡ true → (i < length input) × (many ≡ 0)
@@ -138,22 +138,8 @@ module _ (s : State) (part edges levels entries : List ℕ) where
   ended-stopped e old = rw e (record { size = refl; bytes = refl; inside = omega arith })
 
 -- lists that keep their lengths
-pub lent-kept : {edges levels starts order entries area answers out edges′ levels′ starts′ order′ entries′ area′ answers′ out′ : List ℕ}
-    → length edges′ ≡ length edges → length levels′ ≡ length levels → length starts′ ≡ length starts → length order′ ≡ length order → length entries′ ≡ length entries
-    → length area′ ≡ length area → length answers′ ≡ length answers → length out′ ≡ length out
-    → Lent edges levels starts order entries area answers out → Lent edges′ levels′ starts′ order′ entries′ area′ answers′ out′
-lent-kept e l s o n a w u h =
-    let r = h .rooms in
-    record {
-      rooms =
-          record {
-            edges-lent = e ∙ r .edges-lent;
-            levels-lent = l ∙ r .levels-lent;
-            starts-lent = s ∙ r .starts-lent;
-            order-lent = o ∙ r .order-lent;
-            entries-lent = n ∙ r .entries-lent;
-            area-lent = a ∙ r .area-lent;
-            out-lent = u ∙ r .out-lent;
-          };
-      answers-lent = w ∙ h .answers-lent;
-    }
+pub lent-kept : {edges levels entries out edges′ levels′ entries′ out′ : List ℕ}
+    → length edges′ ≡ length edges → length levels′ ≡ length levels → length entries′ ≡ length entries → length out′ ≡ length out
+    → Rooms edges levels entries out → Rooms edges′ levels′ entries′ out′
+lent-kept e l n u r =
+    record { edges-lent = e ∙ r .edges-lent; levels-lent = l ∙ r .levels-lent; entries-lent = n ∙ r .entries-lent; out-lent = u ∙ r .out-lent }

@@ -1,5 +1,5 @@
 -- The turn of a query and of any line, by the tests of the code.
-use Prim.Native.Nat.{ℕ, suc, _+_, _≤_}
+use Prim.Native.Nat.{ℕ, suc, _+_}
 use mathlib.Core.Path.{_≡_, refl, sym, ap, _∙_}
 use mathlib.Core.List.{List, [], _∷_, _++_, append-nil}
 use native.Mathlib.Omega.{arith}
@@ -7,16 +7,16 @@ use lib.ListN.{length, set, take, length-append}
 use lib.Seq.{sets, length-sets}
 use Rattle.rules.specs.Levels.{levelOf}
 use Rattle.rules.specs.Outcomes.{stored}
-use Rattle.lines.specs.declared.Phase.the-variants.{Opening, Gathering, Answering, Stopped}
-use Rattle.lines.specs.declared.Frame.{Frame}
-use Rattle.lines.specs.declared.Frame.the-variants.{Sizes, Edge, Query, Faulty}
-use Rattle.lines.specs.declared.Progress.{Progress}
-use Rattle.lines.specs.declared.Moved.{Moved}
-use Rattle.lines.specs.Frames.{frameOf, tokensOf}
-use Rattle.lines.specs.Texts.{answerText}
-use Rattle.lines.specs.Machine.{Stage, Turn, silent, builds, storedCall, answers, asked, badFrame, onSizes, onEdge, onQuery, onFrame, onLine}
-use Rattle.lines.specs.Standing.{stageBy, stageOf, Fits, Comes, Written}
-use Rattle.lines.proofs.Laws.Stages.{comes-as}
+use Rattle.machine.specs.declared.Phase.the-variants.{Opening, Gathering, Answering, Stopped}
+use Rattle.machine.specs.declared.Frame.the-variants.{Sizes, Edge, Query, Faulty}
+use Rattle.machine.specs.declared.Progress.{Progress}
+use Rattle.machine.specs.declared.Moved.{Moved}
+use Rattle.machine.specs.Frames.{frameOf, tokensOf}
+use Rattle.machine.specs.Texts.{answerText}
+use Rattle.machine.specs.Machine.{Stage, Turn, silent, builds, storedCall, answers, asked, badFrame, onSizes, onEdge, onQuery, onFrame, onLine}
+use Rattle.machine.specs.Standing.{stageBy, stageOf, Fits, Comes}
+use Rattle.lines.specs.Lent.{Written}
+use Rattle.machine.proofs.Laws.Stages.{comes-as}
 
 -- stores in a row, in two parts
 pub sets-append : (a b l : List ℕ) (i next : ℕ) → next ≡ i + length a → sets l i (a ++ b) ≡ sets (sets l i a) next b

@@ -1,8 +1,8 @@
 -- `lines::asking::ask_tokens` meets its contract.
-use Prim.Native.Nat.{_-_, _≤_}
+use Prim.Native.Nat.{ℕ, _-_, _≤_}
 use mathlib.Core.Path.{sym}
 use native.Mathlib.Omega.{arith}
-use lib.ListN.{take, drop}
+use lib.ListN.{take, drop, length-replicate}
 use lib.Seq.{length-take-le}
 use Rattle.lines.proofs.Laws.Asking.{table-small, one-table, many-fits, written-answers, written-refusal}
 use borrow.Author.Needs.{needs}
@@ -10,16 +10,16 @@ use Rattle.lines.proofs.asking.ask_tokens.Statement.{statement}
 use Rattle.lines.proofs.asking.ask_tokens.Tie as tie
 
 table-end-requires : tie.Need-table-end-requires
-table-end-requires c κs = (c .before .before .before .before .before .before .pre .fits .items-fit, c .before .before .before .before .before .before .pre .few-levels)
+table-end-requires c κs = (c .before .before .before .before .pre .fits .items-fit, c .before .before .before .before .pre .few-levels)
 
 table-end-requires-2 : tie.Need-table-end-requires-2
-table-end-requires-2 c κs = (c .before .before .before .before .before .before .before .pre .fits .items-fit, omega arith)
+table-end-requires-2 c κs = (c .before .before .before .before .before .pre .fits .items-fit, omega arith)
 
 sub-from : tie.Need-sub-from
-sub-from c = omega (arith, c .table-end2 .ensures, c .before .table-end .ensures, one-table (c .before .before .before .before .before .before .before .before .args .p .items) (c .before .before .before .before .before .before .before .before .args .p .k) (c .before .before .before .before .before .before .before .before .pre .some-level))
+sub-from c = omega (arith, c .table-end2 .ensures, c .before .table-end .ensures, one-table (c .before .before .before .before .before .before .args .p .items) (c .before .before .before .before .before .before .args .p .k) (c .before .before .before .before .before .before .pre .some-level))
 
 mul-stored : tie.Need-mul-stored
-mul-stored c = omega (arith, c .before .before .before .before .before .before .before .before .pre .levels-lent, table-small (c .before .before .before .before .before .before .before .before .args .p .items) (c .before .before .before .before .before .before .before .before .args .p .k) (c .before .before .before .before .before .before .before .before .pre .fits .items-fit) (c .before .before .before .before .before .before .before .before .pre .few-levels), c .before .table-end .ensures)
+mul-stored c = omega (arith, c .before .before .before .before .before .before .pre .levels-lent, table-small (c .before .before .before .before .before .before .args .p .items) (c .before .before .before .before .before .before .args .p .k) (c .before .before .before .before .before .before .pre .fits .items-fit) (c .before .before .before .before .before .before .pre .few-levels), c .before .table-end .ensures)
 
 sub-stored : tie.Need-sub-stored
 sub-stored c = search needs
@@ -28,10 +28,16 @@ part-stored-start : tie.Need-part-stored-start
 part-stored-start c = search needs
 
 part-stored-end : tie.Need-part-stored-end
-part-stored-end c = omega (arith, c .before .before .before .before .before .before .before .before .pre .levels-lent, table-small (c .before .before .before .before .before .before .before .before .args .p .items) (c .before .before .before .before .before .before .before .before .args .p .k) (c .before .before .before .before .before .before .before .before .pre .fits .items-fit) (c .before .before .before .before .before .before .before .before .pre .few-levels), c .before .table-end .ensures)
+part-stored-end c = omega (arith, c .before .before .before .before .before .before .pre .levels-lent, table-small (c .before .before .before .before .before .before .args .p .items) (c .before .before .before .before .before .before .args .p .k) (c .before .before .before .before .before .before .pre .fits .items-fit) (c .before .before .before .before .before .before .pre .few-levels), c .before .table-end .ensures)
 
 slice-aggregate-stored : tie.Need-slice-aggregate-stored
-slice-aggregate-stored c = let q = c .before .before .before .before .before .before .before .before .before .before .pre in sym (length-take-le (c .before .before .before .before .before .before .before .before .before .before .args .p .entries) (c .before .before .before .before .before .before .before .before .before .before .args .entries .now) (omega (arith, q .fits .entries-fit, q .entries-lent)))
+slice-aggregate-stored c = let q = c .before .before .before .before .before .before .before .before .pre in sym (length-take-le (c .before .before .before .before .before .before .before .before .args .p .entries) (c .before .before .before .before .before .before .before .before .args .entries .now) (omega (arith, q .fits .entries-fit, q .entries-lent)))
+
+slice-aggregate-stored-2 : tie.Need-slice-aggregate-stored-2
+slice-aggregate-stored-2 c = search needs
+
+slice-aggregate-stored-3 : tie.Need-slice-aggregate-stored-3
+slice-aggregate-stored-3 c = search needs
 
 stored-requires : tie.Need-stored-requires
 stored-requires c κs = search needs
@@ -39,12 +45,15 @@ stored-requires c κs = search needs
 enum-known-answered : tie.Need-enum-known-answered
 enum-known-answered c = search needs
 
+slice-aggregate-put-list : tie.Need-slice-aggregate-put-list
+slice-aggregate-put-list c = search needs
+
 put-list-requires : tie.Need-put-list-requires
 put-list-requires c κs =
-    let a = c .before .before .before .before .before .before .before .before .before .before .before .before .before .before .before .before .before .before .before .before .before .before .args in
-    let q = c .before .before .before .before .before .before .before .before .before .before .before .before .before .before .before .before .before .before .before .before .before .before .pre in
-    let m : c .before .before .before .answered .given .0 .0 ≤ 1024 = many-fits (a .p .items) (a .p .labels) (take (c .before .before .before .before .before .before .before .before .before .before .before .before .before .before .before .table-end .result - (c .before .before .before .before .before .before .before .before .before .before .before .before .before .before .before .table-end .result - c .before .before .before .before .before .before .before .before .before .before .before .before .before .before .table-end2 .result)) (drop (c .before .before .before .before .before .before .before .before .before .before .before .before .before .before .before .table-end .result - c .before .before .before .before .before .before .before .before .before .before .before .before .before .before .table-end2 .result) (a .levels .now))) (take (a .p .entries) (a .entries .now)) (a .tokens .now) (a .answers .now) (a .area .now) (q .answers-lent) (q .area-lent) (c .before .before .before .answered .given .0 .0) (c .before .before .before .before .before .before .before .before .before .stored .result) (c .before .before .before .before .before .before .before .before .before .stored .ensures .result) (c .before .before .before .answered .given .1) in
-    (omega (arith, m, q .room), omega (arith, m, c .before .before .before .before .before .before .before .before .before .stored .kept .1 .1 .1 .1 .1 .0, q .answers-lent))
+    let a = c .before .before .before .before .before .before .before .before .before .before .before .before .before .before .before .before .before .before .args in
+    let q = c .before .before .before .before .before .before .before .before .before .before .before .before .before .before .before .before .before .before .pre in
+    let m : c .before .before .before .answered .given .0 .0 ≤ 1024 = many-fits (a .p .items) (a .p .labels) (take (c .before .before .before .before .before .before .before .before .before .before .before .before .before .table-end .result - (c .before .before .before .before .before .before .before .before .before .before .before .before .before .table-end .result - c .before .before .before .before .before .before .before .before .before .before .before .before .table-end2 .result)) (drop (c .before .before .before .before .before .before .before .before .before .before .before .before .before .table-end .result - c .before .before .before .before .before .before .before .before .before .before .before .before .table-end2 .result) (a .levels .now))) (take (a .p .entries) (a .entries .now)) (a .tokens .now) (c .before .before .before .answered .given .0 .0) (c .before .before .before .before .before .before .before .stored .result) (c .before .before .before .before .before .before .before .stored .ensures .result) (c .before .before .before .answered .given .1) in
+    (omega (arith, m, q .room), omega (arith, m, c .before .before .before .before .before .before .before .stored .kept .1 .1 .1 .1 .1 .0, length-replicate {A = ℕ} 1024 0))
 
 cast-result : tie.Need-cast-result
 cast-result c = search needs
@@ -64,34 +73,22 @@ put-refusal-requires c κs = search needs
 same-length : tie.Need-same-length
 same-length c = search needs
 
+returns : tie.Need-returns
+returns c =
+    let a = c .before .before .before .before .before .before .before .before .before .before .before .before .before .before .before .before .before .before .before .before .before .args in
+    let q = c .before .before .before .before .before .before .before .before .before .before .before .before .before .before .before .before .before .before .before .before .before .pre in
+    let m = c .before .before .before .before .before .before .answered .given .0 .0 in
+    let few : m ≤ 1024 = many-fits (a .p .items) (a .p .labels) (take (c .before .before .before .before .before .before .before .before .before .before .before .before .before .before .before .before .table-end .result - (c .before .before .before .before .before .before .before .before .before .before .before .before .before .before .before .before .table-end .result - c .before .before .before .before .before .before .before .before .before .before .before .before .before .before .before .table-end2 .result)) (drop (c .before .before .before .before .before .before .before .before .before .before .before .before .before .before .before .before .table-end .result - c .before .before .before .before .before .before .before .before .before .before .before .before .before .before .before .table-end2 .result) (a .levels .now))) (take (a .p .entries) (a .entries .now)) (a .tokens .now) m (c .before .before .before .before .before .before .before .before .before .before .stored .result) (c .before .before .before .before .before .before .before .before .before .before .stored .ensures .result) (c .before .before .before .before .before .before .answered .given .1) in
+    written-answers (a .p .items) (a .p .labels) (a .p .k) (a .levels .now) (take (a .p .entries) (a .entries .now)) (a .tokens .now) (c .before .before .before .before .before .before .before .before .before .before .before .before .before .before .before .before .table-end .result) (c .before .before .before .before .before .before .before .before .before .before .before .before .before .before .before .table-end2 .result) (c .before .before .before .before .before .before .before .before .before .before .before .before .before .before .before .before .table-end .ensures) (c .before .before .before .before .before .before .before .before .before .before .before .before .before .before .before .table-end2 .ensures) (q .some-level) m (c .before .before .before .before .before .before .before .before .before .before .stored .result) (c .before .before .before .before .before .before .before .before .before .before .stored .last .1 .1 .1 .1 .1 .0) (c .before .before .before .before .before .before .before .before .before .before .stored .ensures .result) (c .before .before .before .before .before .before .before .before .before .before .stored .ensures .answers) (c .before .before .before .before .before .before .answered .given .1) (omega (arith, few, c .before .before .before .before .before .before .before .before .before .before .stored .kept .1 .1 .1 .1 .1 .0, length-replicate {A = ℕ} 1024 0)) (a .at) (a .out .now) (c .before .before .put-list .last .0) (q .room) (c .before .before .put-list .ensures)
+
 same-length-2 : tie.Need-same-length-2
 same-length-2 c = search needs
 
-same-length-3 : tie.Need-same-length-3
-same-length-3 c = search needs
-
-returns : tie.Need-returns
-returns c =
-    let a = c .before .before .before .before .before .before .before .before .before .before .before .before .before .before .before .before .before .before .before .before .before .before .before .before .before .args in
-    let q = c .before .before .before .before .before .before .before .before .before .before .before .before .before .before .before .before .before .before .before .before .before .before .before .before .before .pre in
-    let m = c .before .before .before .before .before .before .answered .given .0 .0 in
-    let few : m ≤ 1024 = many-fits (a .p .items) (a .p .labels) (take (c .before .before .before .before .before .before .before .before .before .before .before .before .before .before .before .before .before .before .table-end .result - (c .before .before .before .before .before .before .before .before .before .before .before .before .before .before .before .before .before .before .table-end .result - c .before .before .before .before .before .before .before .before .before .before .before .before .before .before .before .before .before .table-end2 .result)) (drop (c .before .before .before .before .before .before .before .before .before .before .before .before .before .before .before .before .before .before .table-end .result - c .before .before .before .before .before .before .before .before .before .before .before .before .before .before .before .before .before .table-end2 .result) (a .levels .now))) (take (a .p .entries) (a .entries .now)) (a .tokens .now) (a .answers .now) (a .area .now) (q .answers-lent) (q .area-lent) m (c .before .before .before .before .before .before .before .before .before .before .before .before .stored .result) (c .before .before .before .before .before .before .before .before .before .before .before .before .stored .ensures .result) (c .before .before .before .before .before .before .answered .given .1) in
-    written-answers (a .p .items) (a .p .labels) (a .p .k) (a .levels .now) (take (a .p .entries) (a .entries .now)) (a .tokens .now) (a .answers .now) (a .area .now) (c .before .before .before .before .before .before .before .before .before .before .before .before .before .before .before .before .before .before .table-end .result) (c .before .before .before .before .before .before .before .before .before .before .before .before .before .before .before .before .before .table-end2 .result) (c .before .before .before .before .before .before .before .before .before .before .before .before .before .before .before .before .before .before .table-end .ensures) (c .before .before .before .before .before .before .before .before .before .before .before .before .before .before .before .before .before .table-end2 .ensures) (q .some-level) (q .answers-lent) (q .area-lent) m (c .before .before .before .before .before .before .before .before .before .before .before .before .stored .result) (c .before .before .before .before .before .before .before .before .before .before .before .before .stored .last .1 .1 .1 .1 .1 .0) (c .before .before .before .before .before .before .before .before .before .before .before .before .stored .ensures .result) (c .before .before .before .before .before .before .before .before .before .before .before .before .stored .ensures .answers) (c .before .before .before .before .before .before .answered .given .1) (omega (arith, few, c .before .before .before .before .before .before .before .before .before .before .before .before .stored .kept .1 .1 .1 .1 .1 .0, q .answers-lent)) (a .at) (a .out .now) (c .before .before .put-list .last .0) (q .room) (c .before .before .put-list .ensures)
-
-same-length-4 : tie.Need-same-length-4
-same-length-4 c = search needs
-
-same-length-5 : tie.Need-same-length-5
-same-length-5 c = search needs
-
-same-length-6 : tie.Need-same-length-6
-same-length-6 c = search needs
-
 returns-2 : tie.Need-returns-2
 returns-2 c =
-    let a = c .before .before .before .before .before .before .before .before .before .before .before .before .before .before .before .before .before .before .before .before .before .before .before .before .args in
-    let q = c .before .before .before .before .before .before .before .before .before .before .before .before .before .before .before .before .before .before .before .before .before .before .before .before .pre in
-    written-refusal (a .p .items) (a .p .labels) (a .p .k) (a .levels .now) (take (a .p .entries) (a .entries .now)) (a .tokens .now) (a .answers .now) (a .area .now) (c .before .before .before .before .before .before .before .before .before .before .before .before .before .before .before .before .before .table-end .result) (c .before .before .before .before .before .before .before .before .before .before .before .before .before .before .before .before .table-end2 .result) (c .before .before .before .before .before .before .before .before .before .before .before .before .before .before .before .before .before .table-end .ensures) (c .before .before .before .before .before .before .before .before .before .before .before .before .before .before .before .before .table-end2 .ensures) (q .some-level) (q .answers-lent) (q .area-lent) _ (c .before .before .before .before .before .before .before .before .before .before .before .stored .result) (c .before .before .before .before .before .before .before .before .before .before .before .stored .ensures .result) (c .before .before .before .before .before .answered2 .given .1) (a .at) (a .out .now) (c .before .before .put-refusal .last .0) (q .room) (c .before .before .put-refusal .ensures)
+    let a = c .before .before .before .before .before .before .before .before .before .before .before .before .before .before .before .before .before .before .before .before .args in
+    let q = c .before .before .before .before .before .before .before .before .before .before .before .before .before .before .before .before .before .before .before .before .pre in
+    written-refusal (a .p .items) (a .p .labels) (a .p .k) (a .levels .now) (take (a .p .entries) (a .entries .now)) (a .tokens .now) (c .before .before .before .before .before .before .before .before .before .before .before .before .before .before .before .table-end .result) (c .before .before .before .before .before .before .before .before .before .before .before .before .before .before .table-end2 .result) (c .before .before .before .before .before .before .before .before .before .before .before .before .before .before .before .table-end .ensures) (c .before .before .before .before .before .before .before .before .before .before .before .before .before .before .table-end2 .ensures) (q .some-level) _ (c .before .before .before .before .before .before .before .before .before .stored .result) (c .before .before .before .before .before .before .before .before .before .stored .ensures .result) (c .before .before .before .before .before .answered2 .given .1) (a .at) (a .out .now) (c .before .before .put-refusal .last .0) (q .room) (c .before .before .put-refusal .ensures)
 
 pub ask-tokens-spec : {M : Type 1} → statement M
 ask-tokens-spec =
@@ -105,8 +102,11 @@ ask-tokens-spec =
     part-stored-start
     part-stored-end
     slice-aggregate-stored
+    slice-aggregate-stored-2
+    slice-aggregate-stored-3
     stored-requires
     enum-known-answered
+    slice-aggregate-put-list
     put-list-requires
     cast-result
     mul-result
@@ -114,10 +114,6 @@ ask-tokens-spec =
     enum-known-answered-2
     put-refusal-requires
     same-length
-    same-length-2
-    same-length-3
     returns
-    same-length-4
-    same-length-5
-    same-length-6
+    same-length-2
     returns-2)

@@ -5,22 +5,22 @@ use mathlib.Core.Bool.{true≢false}
 use native.Mathlib.Omega.{arith}
 use borrow.Author.Needs.{needs}
 use lib.ListN.{length, drop}
-use Rattle.lines.specs.Machine.{feed}
-use Rattle.lines.specs.Standing.{machineOf}
+use Rattle.machine.specs.Machine.{feed}
+use Rattle.machine.specs.Standing.{machineOf}
 use Rattle.lines.proofs.Laws.Feeding.{Looped, fed-start, fed-open, step-printed, goes-open, lent-kept}
 use Rattle.lines.proofs.feeding.advance.Statement.{statement}
 use Rattle.lines.proofs.feeding.advance.Tie as tie
 
 abbrev Inv-loop : tie.InvT-loop
-Inv-loop input from part₀ edges₀ levels₀ starts₀ order₀ entries₀ area₀ answers₀ out₀ t₀ i₀ many₀ more₀ part edges levels starts order entries area answers out t i many more =
-    Looped input from i t many more part edges levels starts order entries area answers out (feed (machineOf t₀ part₀ edges₀ levels₀ entries₀) (drop from input))
+Inv-loop input from part₀ edges₀ levels₀ entries₀ out₀ t₀ i₀ many₀ more₀ part edges levels entries out t i many more =
+    Looped input from i t many more part edges levels entries out (feed (machineOf t₀ part₀ edges₀ levels₀ entries₀) (drop from input))
 
 abbrev μ-loop : tie.MeasureT-loop
-μ-loop input from part₀ edges₀ levels₀ starts₀ order₀ entries₀ area₀ answers₀ out₀ t₀ i₀ many₀ more₀ part edges levels starts order entries area answers out t i many more = length input - i
+μ-loop input from part₀ edges₀ levels₀ entries₀ out₀ t₀ i₀ many₀ more₀ part edges levels entries out t i many more = length input - i
 
 loop-holds : tie.Need-loop-holds Inv-loop μ-loop
 loop-holds c =
-    let q = c .before .before .before .before .before .before .before .before .before .before .pre in
+    let q = c .before .before .before .before .before .before .pre in
     record {
       behind = omega arith;
       within = omega (arith, q .1);
@@ -28,7 +28,7 @@ loop-holds c =
       part-lent = q .2;
       lent = q .3;
       inside = omega arith;
-      fed = fed-start _ (c .before .before .before .before .before .before .before .before .before .before .args .out .now);
+      fed = fed-start _ (c .before .before .before .before .before .before .args .out .now);
       ready = λ _. (q .1, refl);
       moved = λ e. absurd (true≢false e);
     }
@@ -37,63 +37,51 @@ shared-slice-read-take-byte : tie.Need-shared-slice-read-take-byte Inv-loop μ-l
 shared-slice-read-take-byte c = c .before .before .loop .inv .ready (c .before .loop-test .taken) .0
 
 take-byte-requires : tie.Need-take-byte-requires Inv-loop μ-loop
-take-byte-requires c κs = let v = c .before .before .before .before .before .before .before .before .before .before .before .loop .inv in (v .stands, v .part-lent, v .lent)
+take-byte-requires c κs = let v = c .before .before .before .before .before .before .before .loop .inv in (v .stands, v .part-lent, v .lent)
 
 add-i : tie.Need-add-i Inv-loop μ-loop
-add-i c = omega (arith, c .before .before .before .before .before .before .before .before .before .before .before .before .before .before .before .before .before .before .before .before .before .before .before .before .before .before .before .before .before .before .before .loop .inv .ready (c .before .before .before .before .before .before .before .before .before .before .before .before .before .before .before .before .before .before .before .before .before .before .before .before .before .before .before .before .before .before .loop-test .taken) .0, c .before .before .before .before .before .before .before .before .before .before .before .before .before .before .before .before .before .before .before .before .before .before .before .before .before .before .before .before .before .before .before .before .before .before .before .before .before .before .before .before .before .before .good .1 .0)
+add-i c = omega (arith, c .before .before .before .before .before .before .before .before .before .before .before .before .before .before .before .before .before .before .before .loop .inv .ready (c .before .before .before .before .before .before .before .before .before .before .before .before .before .before .before .before .before .before .loop-test .taken) .0, c .before .before .before .before .before .before .before .before .before .before .before .before .before .before .before .before .before .before .before .before .before .before .before .before .before .before .good .1 .0)
 
 goes-on-requires : tie.Need-goes-on-requires Inv-loop μ-loop
 goes-on-requires c κs = search needs
 
 loop-less : tie.Need-loop-less Inv-loop μ-loop
-loop-less c = omega (arith, c .before .before .before .before .before .before .before .before .before .before .before .before .before .before .before .before .before .before .before .before .before .before .before .before .before .before .before .before .before .before .before .before .loop .inv .ready (c .before .before .before .before .before .before .before .before .before .before .before .before .before .before .before .before .before .before .before .before .before .before .before .before .before .before .before .before .before .before .before .loop-test .taken) .0)
+loop-less c = omega (arith, c .before .before .before .before .before .before .before .before .before .before .before .before .before .before .before .before .before .before .before .before .loop .inv .ready (c .before .before .before .before .before .before .before .before .before .before .before .before .before .before .before .before .before .before .before .loop-test .taken) .0)
 
 loop-again : tie.Need-loop-again Inv-loop μ-loop
 loop-again c =
-    let a = c .before .before .before .before .before .before .before .before .before .before .before .before .before .before .before .before .before .before .before .before .before .before .before .before .before .before .before .before .before .before .before .before .before .before .before .before .before .before .before .before .before .before .before .args in
-    let l = c .before .before .before .before .before .before .before .before .before .before .before .before .before .before .before .before .before .before .before .before .before .before .before .before .before .before .before .before .before .before .before .before .loop in
-    let b = c .before .before .before .before .before .before .before .before .before .before .before .before .before .before .before .before .before .before .before .before .take-byte in
-    let q = l .inv .ready (c .before .before .before .before .before .before .before .before .before .before .before .before .before .before .before .before .before .before .before .before .before .before .before .before .before .before .before .before .before .before .before .loop-test .taken) in
+    let a = c .before .before .before .before .before .before .before .before .before .before .before .before .before .before .before .before .before .before .before .before .before .before .before .before .before .before .before .args in
+    let l = c .before .before .before .before .before .before .before .before .before .before .before .before .before .before .before .before .before .before .before .before .loop in
+    let b = c .before .before .before .before .before .before .before .before .before .before .before .before .take-byte in
+    let q = l .inv .ready (c .before .before .before .before .before .before .before .before .before .before .before .before .before .before .before .before .before .before .before .loop-test .taken) in
     record {
       behind = omega (arith, l .inv .behind);
       within = omega (arith, q .0);
       stands = b .ensures .stands;
       part-lent = b .kept .1 .1 .0 ∙ l .inv .part-lent;
-      lent = lent-kept (b .kept .1 .1 .1 .0) (b .kept .1 .1 .1 .1 .0) (b .kept .1 .1 .1 .1 .1 .0) (b .kept .1 .1 .1 .1 .1 .1 .0) (b .kept .1 .1 .1 .1 .1 .1 .1 .0) (b .kept .1 .1 .1 .1 .1 .1 .1 .1 .0) (b .kept .1 .1 .1 .1 .1 .1 .1 .1 .1 .0) (b .kept .1 .1 .1 .1 .1 .1 .1 .1 .1 .1 .0) (l .inv .lent);
-      inside = omega (arith, b .ensures .inside, b .kept .1 .1 .1 .1 .1 .1 .1 .1 .1 .1 .0);
+      lent = lent-kept (b .kept .1 .1 .1 .0) (b .kept .1 .1 .1 .1 .0) (b .kept .1 .1 .1 .1 .1 .0) (b .kept .1 .1 .1 .1 .1 .1 .0) (l .inv .lent);
+      inside = omega (arith, b .ensures .inside, b .kept .1 .1 .1 .1 .1 .1 .0);
       fed =
           fed-open _ _ (l .out) (l .many) (q .1) (l .inv .fed)
-          ∙ step-printed (machineOf (l .t) (l .part) (l .edges) (l .levels) (l .entries)) (a .input .now) (l .i) (b .result) (b .last .1 .1 .0) (b .last .1 .1 .1 .0) (b .last .1 .1 .1 .1 .0) (b .last .1 .1 .1 .1 .1 .1 .1 .0) (l .out) (b .last .1 .1 .1 .1 .1 .1 .1 .1 .1 .1 .0) (q .0) (b .ensures);
+          ∙ step-printed (machineOf (l .t) (l .part) (l .edges) (l .levels) (l .entries)) (a .input .now) (l .i) (b .result) (b .last .1 .1 .0) (b .last .1 .1 .1 .0) (b .last .1 .1 .1 .1 .0) (b .last .1 .1 .1 .1 .1 .0) (l .out) (b .last .1 .1 .1 .1 .1 .1 .0) (q .0) (b .ensures);
       ready = goes-open _ _ _ _ (c .goes-on .ensures);
       moved = λ _. omega (arith, l .inv .behind);
     }
 
 same-length : tie.Need-same-length Inv-loop μ-loop
-same-length c = c .before .loop .inv .part-lent ∙ sym (c .before .before .before .before .before .before .before .before .before .before .before .before .pre .2)
+same-length c = c .before .loop .inv .part-lent ∙ sym (c .before .before .before .before .before .before .before .before .pre .2)
 
 same-length-2 : tie.Need-same-length-2 Inv-loop μ-loop
-same-length-2 c = c .before .loop .inv .lent .rooms .edges-lent ∙ sym (c .before .before .before .before .before .before .before .before .before .before .before .before .pre .3 .rooms .edges-lent)
+same-length-2 c = c .before .loop .inv .lent .edges-lent ∙ sym (c .before .before .before .before .before .before .before .before .pre .3 .edges-lent)
 
 same-length-3 : tie.Need-same-length-3 Inv-loop μ-loop
-same-length-3 c = c .before .loop .inv .lent .rooms .levels-lent ∙ sym (c .before .before .before .before .before .before .before .before .before .before .before .before .pre .3 .rooms .levels-lent)
+same-length-3 c = c .before .loop .inv .lent .levels-lent ∙ sym (c .before .before .before .before .before .before .before .before .pre .3 .levels-lent)
 
 same-length-4 : tie.Need-same-length-4 Inv-loop μ-loop
-same-length-4 c = c .before .loop .inv .lent .rooms .starts-lent ∙ sym (c .before .before .before .before .before .before .before .before .before .before .before .before .pre .3 .rooms .starts-lent)
+same-length-4 c = c .before .loop .inv .lent .entries-lent ∙ sym (c .before .before .before .before .before .before .before .before .pre .3 .entries-lent)
 
 same-length-5 : tie.Need-same-length-5 Inv-loop μ-loop
-same-length-5 c = c .before .loop .inv .lent .rooms .order-lent ∙ sym (c .before .before .before .before .before .before .before .before .before .before .before .before .pre .3 .rooms .order-lent)
-
-same-length-6 : tie.Need-same-length-6 Inv-loop μ-loop
-same-length-6 c = c .before .loop .inv .lent .rooms .entries-lent ∙ sym (c .before .before .before .before .before .before .before .before .before .before .before .before .pre .3 .rooms .entries-lent)
-
-same-length-7 : tie.Need-same-length-7 Inv-loop μ-loop
-same-length-7 c = c .before .loop .inv .lent .rooms .area-lent ∙ sym (c .before .before .before .before .before .before .before .before .before .before .before .before .pre .3 .rooms .area-lent)
-
-same-length-8 : tie.Need-same-length-8 Inv-loop μ-loop
-same-length-8 c = c .before .loop .inv .lent .answers-lent ∙ sym (c .before .before .before .before .before .before .before .before .before .before .before .before .pre .3 .answers-lent)
-
-same-length-9 : tie.Need-same-length-9 Inv-loop μ-loop
-same-length-9 c = c .before .loop .inv .lent .rooms .out-lent ∙ sym (c .before .before .before .before .before .before .before .before .before .before .before .before .pre .3 .rooms .out-lent)
+same-length-5 c = c .before .loop .inv .lent .out-lent ∙ sym (c .before .before .before .before .before .before .before .before .pre .3 .out-lent)
 
 returns : tie.Need-returns Inv-loop μ-loop
 returns c =
@@ -118,8 +106,4 @@ advance-spec =
     same-length-3
     same-length-4
     same-length-5
-    same-length-6
-    same-length-7
-    same-length-8
-    same-length-9
     returns)

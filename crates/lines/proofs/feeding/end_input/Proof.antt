@@ -29,7 +29,7 @@ same-length : tie.Need-same-length
 same-length c = search needs
 
 returns : tie.Need-returns
-returns c = λ part. let a = c .before .before .before .before .before .before .before .before .before .before .before .before .before .before .before .args in ended-opening (a .s) part (a .edges .now) (a .levels .now) (a .entries .now) (c .before .before .before .before .before .enum-told .given .1) (c .before .before .bad-frame .result) (c .before .before .before .before .next-line .result) (a .edges .now) (a .levels .now) (a .entries .now) (a .out .now) (c .before .before .bad-frame .last .1 .0) (c .before .before .before .before .next-line .ensures) (c .before .before .bad-frame .ensures (a .edges .now) (a .levels .now) (a .entries .now))
+returns c = λ part. let a = c .before .before .before .before .before .before .before .before .before .before .before .before .args in ended-opening (a .s) part (a .edges .now) (a .levels .now) (a .entries .now) (c .before .before .before .before .before .enum-told .given .1) (c .before .before .bad-frame .result) (c .before .before .before .before .next-line .result) (a .edges .now) (a .levels .now) (a .entries .now) (a .out .now) (c .before .before .bad-frame .last .1 .0) (c .before .before .before .before .next-line .ensures) (c .before .before .bad-frame .ensures (a .edges .now) (a .levels .now) (a .entries .now))
 
 same-length-2 : tie.Need-same-length-2
 same-length-2 c = search needs
@@ -40,23 +40,14 @@ same-length-3 c = search needs
 same-length-4 : tie.Need-same-length-4
 same-length-4 c = search needs
 
-same-length-5 : tie.Need-same-length-5
-same-length-5 c = search needs
-
-same-length-6 : tie.Need-same-length-6
-same-length-6 c = search needs
-
-same-length-7 : tie.Need-same-length-7
-same-length-7 c = search needs
-
 returns-2 : tie.Need-returns-2
-returns-2 c = λ part. let a = c .before .before .before .before .before .before .before .before .before .before .before .before .before .before .before .before .before .before .before .before .before .before .before .before .before .before .before .before .before .args in let b = c .before .before .before .before .before .before .before .before .before .before .before .before .build-tables in ended-gathering (a .s) part (a .edges .now) (a .levels .now) (a .entries .now) (c .before .before .before .before .before .before .before .before .before .before .before .before .before .before .before .before .before .before .before .enum-told2 .given .1) (b .result) (a .edges .now) (b .last .1 .1 .0) (b .last .1 .1 .1 .1 .1 .0) (a .out .now) (b .last .1 .1 .1 .1 .1 .1 .1 .0) (b .ensures .0)
+returns-2 c = λ part. let a = c .before .before .before .before .before .before .before .before .before .before .before .before .before .before .before .before .before .args in let b = c .before .before .before .before .before .before .build-tables in ended-gathering (a .s) part (a .edges .now) (a .levels .now) (a .entries .now) (c .before .before .before .before .before .before .before .before .before .before .enum-told2 .given .1) (b .result) (a .edges .now) (b .last .1 .1 .0) (b .last .1 .1 .1 .0) (a .out .now) (b .last .1 .1 .1 .1 .0) (b .ensures .0)
 
 returns-3 : tie.Need-returns-3
-returns-3 c = λ part. let a = c .before .before .before .before .before .before .before .before .before .before .args in ended-answering (a .s) part (a .edges .now) (a .levels .now) (a .entries .now) (c .enum-told3 .given .1) (a .out .now)
+returns-3 c = λ part. let a = c .before .before .before .before .before .before .before .args in ended-answering (a .s) part (a .edges .now) (a .levels .now) (a .entries .now) (c .enum-told3 .given .1) (a .out .now)
 
 returns-4 : tie.Need-returns-4
-returns-4 c = λ part. let a = c .before .before .before .before .before .before .before .before .before .before .args in ended-stopped (a .s) part (a .edges .now) (a .levels .now) (a .entries .now) (c .enum-told4 .given .1) (a .out .now)
+returns-4 c = λ part. let a = c .before .before .before .before .before .before .before .args in ended-stopped (a .s) part (a .edges .now) (a .levels .now) (a .entries .now) (c .enum-told4 .given .1) (a .out .now)
 
 pub end-input-spec : {M : Type 1} → statement M
 end-input-spec =
@@ -74,9 +65,6 @@ end-input-spec =
     same-length-2
     same-length-3
     same-length-4
-    same-length-5
-    same-length-6
-    same-length-7
     returns-2
     returns-3
     returns-4)

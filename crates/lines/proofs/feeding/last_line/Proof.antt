@@ -1,6 +1,6 @@
 -- `lines::feeding::last_line` meets its contract.
 use mathlib.Core.Path.{sym, _∙_}
-use Rattle.lines.proofs.Laws.Steps.{steps-as}
+use Rattle.machine.proofs.Laws.Steps.{steps-as}
 use Rattle.lines.proofs.Laws.Feeding.{last-stopped, last-empty, last-held}
 use borrow.Author.Needs.{needs}
 use Rattle.lines.proofs.feeding.last_line.Statement.{statement}
@@ -10,10 +10,10 @@ is-stopped-requires : tie.Need-is-stopped-requires
 is-stopped-requires c κs = search needs
 
 returns : tie.Need-returns
-returns c = let a = c .before .before .before .before .before .before .before .before .before .before .before .before .args in last-stopped (a .s) (a .part .now) (a .edges .now) (a .levels .now) (a .entries .now) (c .before .before .before .before .before .before .before .before .before .before .before .before .pre .0) (sym (c .before .is-stopped .ensures (a .edges .now) (a .levels .now) (a .entries .now)) ∙ c .if1 .taken) (a .out .now)
+returns c = let a = c .before .before .before .before .before .before .before .before .args in last-stopped (a .s) (a .part .now) (a .edges .now) (a .levels .now) (a .entries .now) (c .before .before .before .before .before .before .before .before .pre .0) (sym (c .before .is-stopped .ensures (a .edges .now) (a .levels .now) (a .entries .now)) ∙ c .if1 .taken) (a .out .now)
 
 returns-2 : tie.Need-returns-2
-returns-2 c = let a = c .before .before .before .before .before .before .before .before .before .before .before .before .before .before .args in last-empty (a .s) (a .part .now) (a .edges .now) (a .levels .now) (a .entries .now) (c .before .before .before .before .before .before .before .before .before .before .before .before .before .before .pre .0) (sym (c .before .before .before .is-stopped .ensures (a .edges .now) (a .levels .now) (a .entries .now)) ∙ c .before .before .if1 .left) (c .if2 .taken) (a .out .now)
+returns-2 c = let a = c .before .before .before .before .before .before .before .before .before .before .args in last-empty (a .s) (a .part .now) (a .edges .now) (a .levels .now) (a .entries .now) (c .before .before .before .before .before .before .before .before .before .before .pre .0) (sym (c .before .before .before .is-stopped .ensures (a .edges .now) (a .levels .now) (a .entries .now)) ∙ c .before .before .if1 .left) (c .if2 .taken) (a .out .now)
 
 end-line-requires : tie.Need-end-line-requires
 end-line-requires c κs = search needs
@@ -30,20 +30,8 @@ same-length-3 c = search needs
 same-length-4 : tie.Need-same-length-4
 same-length-4 c = search needs
 
-same-length-5 : tie.Need-same-length-5
-same-length-5 c = search needs
-
-same-length-6 : tie.Need-same-length-6
-same-length-6 c = search needs
-
-same-length-7 : tie.Need-same-length-7
-same-length-7 c = search needs
-
-same-length-8 : tie.Need-same-length-8
-same-length-8 c = search needs
-
 returns-3 : tie.Need-returns-3
-returns-3 c = let a = c .before .before .before .before .before .before .before .before .before .before .before .before .before .before .before .before .before .before .before .before .before .before .before .before .before .before .before .before .before .before .before .before .before .before .before .before .before .before .before .args in steps-as (last-held (a .s) (a .part .now) (a .edges .now) (a .levels .now) (a .entries .now) (c .before .before .before .before .before .before .before .before .before .before .before .before .before .before .before .before .before .before .before .before .before .before .before .before .before .before .before .before .before .before .before .before .before .before .before .before .before .before .before .pre .0) (c .before .before .before .before .before .before .before .before .before .before .before .before .before .before .before .before .before .before .before .before .before .before .before .before .before .before .before .before .before .before .before .before .before .before .before .before .before .before .before .pre .1) (sym (c .before .before .before .before .before .before .before .before .before .before .before .before .before .before .before .before .before .before .before .before .before .before .before .before .before .before .before .before .is-stopped .ensures (a .edges .now) (a .levels .now) (a .entries .now)) ∙ c .before .before .before .before .before .before .before .before .before .before .before .before .before .before .before .before .before .before .before .before .before .before .before .before .before .before .before .if1 .left) (c .before .before .before .before .before .before .before .before .before .before .before .before .before .before .before .before .before .before .before .before .before .before .before .before .before .if2 .left)) (c .before .before .before .before .before .before .before .before .before .before .before .before .before .before .before .before .end-line .ensures)
+returns-3 c = let a = c .before .before .before .before .before .before .before .before .before .before .before .before .before .before .before .before .before .before .before .before .before .before .before .args in steps-as (last-held (a .s) (a .part .now) (a .edges .now) (a .levels .now) (a .entries .now) (c .before .before .before .before .before .before .before .before .before .before .before .before .before .before .before .before .before .before .before .before .before .before .before .pre .0) (c .before .before .before .before .before .before .before .before .before .before .before .before .before .before .before .before .before .before .before .before .before .before .before .pre .1) (sym (c .before .before .before .before .before .before .before .before .before .before .before .before .before .before .before .before .is-stopped .ensures (a .edges .now) (a .levels .now) (a .entries .now)) ∙ c .before .before .before .before .before .before .before .before .before .before .before .before .before .before .before .if1 .left) (c .before .before .before .before .before .before .before .before .before .before .before .before .before .if2 .left)) (c .before .before .before .before .before .before .before .before .end-line .ensures)
 
 pub last-line-spec : {M : Type 1} → statement M
 last-line-spec =
@@ -57,8 +45,4 @@ last-line-spec =
     same-length-2
     same-length-3
     same-length-4
-    same-length-5
-    same-length-6
-    same-length-7
-    same-length-8
     returns-3)

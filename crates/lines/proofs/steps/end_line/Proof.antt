@@ -2,7 +2,7 @@
 use mathlib.Core.Path.{sym}
 use native.Mathlib.Omega.{arith}
 use lib.Seq.{length-take-le}
-use Rattle.lines.proofs.Laws.Steps.{end-steps}
+use Rattle.machine.proofs.Laws.Steps.{end-steps}
 use borrow.Author.Needs.{needs}
 use Rattle.lines.proofs.steps.end_line.Statement.{statement}
 use Rattle.lines.proofs.steps.end_line.Tie as tie
@@ -11,12 +11,12 @@ next-line-requires : tie.Need-next-line-requires
 next-line-requires c κs = search needs
 
 slice-aggregate-on-line : tie.Need-slice-aggregate-on-line
-slice-aggregate-on-line c = sym (length-take-le (c .before .before .before .before .before .before .before .before .before .before .before .before .args .s .held) (c .before .before .before .before .before .before .before .before .before .before .before .before .args .part .now) (omega (arith, c .before .before .before .before .before .before .before .before .before .before .before .before .pre .0 .held-fits, c .before .before .before .before .before .before .before .before .before .before .before .before .pre .1)))
+slice-aggregate-on-line c = sym (length-take-le (c .before .before .before .before .before .before .before .before .args .s .held) (c .before .before .before .before .before .before .before .before .args .part .now) (omega (arith, c .before .before .before .before .before .before .before .before .pre .0 .held-fits, c .before .before .before .before .before .before .before .before .pre .1)))
 
 on-line-requires : tie.Need-on-line-requires
 on-line-requires c κs =
-    let a = c .before .before .before .before .before .before .before .before .before .before .before .before .before .before .before .before .before .before .before .before .args in
-    let q = c .before .before .before .before .before .before .before .before .before .before .before .before .before .before .before .before .before .before .before .before .pre in
+    let a = c .before .before .before .before .before .before .before .before .before .before .before .before .args in
+    let q = c .before .before .before .before .before .before .before .before .before .before .before .before .pre in
     (q .0 .progress-fits, omega (arith, q .0 .held-fits, length-take-le (a .s .held) (a .part .now) (omega (arith, q .0 .held-fits, q .1))), q .2)
 
 same-length : tie.Need-same-length
@@ -31,23 +31,11 @@ same-length-3 c = search needs
 same-length-4 : tie.Need-same-length-4
 same-length-4 c = search needs
 
-same-length-5 : tie.Need-same-length-5
-same-length-5 c = search needs
-
-same-length-6 : tie.Need-same-length-6
-same-length-6 c = search needs
-
-same-length-7 : tie.Need-same-length-7
-same-length-7 c = search needs
-
-same-length-8 : tie.Need-same-length-8
-same-length-8 c = search needs
-
 returns : tie.Need-returns
 returns c =
-    let a = c .before .before .before .before .before .before .before .before .before .before .before .before .before .before .before .before .before .before .before .before .before .before .before .before .before .before .before .before .before .before .before .before .before .before .before .before .before .before .args in
-    let o = c .before .before .before .before .before .before .before .before .before .before .before .before .before .before .before .before .before .on-line in
-    end-steps (a .s) (o .result) (c .before .before .before .before .before .before .before .before .before .before .before .before .before .before .before .before .before .before .before .before .before .before .before .before .before .before .before .before .next-line .result) (a .part .now) (a .edges .now) (a .levels .now) (a .entries .now) (o .last .1 .1 .1 .0) (o .last .1 .1 .1 .1 .0) (o .last .1 .1 .1 .1 .1 .1 .1 .0) (a .out .now) (o .last .1 .1 .1 .1 .1 .1 .1 .1 .1 .1 .0) (c .before .before .before .before .before .before .before .before .before .before .before .before .before .before .before .before .before .before .before .before .before .before .before .before .before .before .before .before .next-line .ensures) (o .ensures)
+    let a = c .before .before .before .before .before .before .before .before .before .before .before .before .before .before .before .before .before .before .before .before .before .before .args in
+    let o = c .before .before .before .before .before .before .before .before .before .on-line in
+    end-steps (a .s) (o .result) (c .before .before .before .before .before .before .before .before .before .before .before .before .before .before .before .before .next-line .result) (a .part .now) (a .edges .now) (a .levels .now) (a .entries .now) (o .last .1 .1 .1 .0) (o .last .1 .1 .1 .1 .0) (o .last .1 .1 .1 .1 .1 .0) (a .out .now) (o .last .1 .1 .1 .1 .1 .1 .0) (c .before .before .before .before .before .before .before .before .before .before .before .before .before .before .before .before .next-line .ensures) (o .ensures)
 
 pub end-line-spec : {M : Type 1} → statement M
 end-line-spec =
@@ -60,8 +48,4 @@ end-line-spec =
     same-length-2
     same-length-3
     same-length-4
-    same-length-5
-    same-length-6
-    same-length-7
-    same-length-8
     returns)

@@ -1,7 +1,7 @@
 -- `lines::turns::on_query` meets its contract.
 use mathlib.Core.Path.{_∙_}
-use Rattle.lines.specs.Frames.{tokensOf}
-use Rattle.lines.proofs.Laws.Stages.{comes-as}
+use Rattle.machine.specs.Frames.{tokensOf}
+use Rattle.machine.proofs.Laws.Stages.{comes-as}
 use Rattle.lines.proofs.Laws.Turns.{silent-comes, query-opening, query-gathering, query-answering, query-stopped}
 use borrow.Author.Needs.{needs}
 use Rattle.lines.proofs.turns.on_query.Statement.{statement}
@@ -21,10 +21,10 @@ build-tables-requires c κs = search needs
 
 then-ask-requires : tie.Need-then-ask-requires
 then-ask-requires c κs =
-    let q = c .before .before .before .before .before .before .before .before .before .before .before .before .before .before .before .before .before .before .before .before .before .before .before .before .before .before .before .before .before .before .before .before .before .before .before .pre in
-    let b = c .before .before .before .before .before .before .before .before .before .before .before .before .before .before .before .before .before .build-tables in
-    let r = q .2 .rooms in
-    record { fits = b .ensures .0 .fits; few = b .ensures .1; short = q .1; levels-lent = b .kept .1 .1 .0 ∙ r .levels-lent; entries-lent = b .kept .1 .1 .1 .1 .1 .0 ∙ r .entries-lent; area-lent = b .kept .1 .1 .1 .1 .1 .1 .0 ∙ r .area-lent; answers-lent = q .2 .answers-lent; out-lent = b .kept .1 .1 .1 .1 .1 .1 .1 .0 ∙ r .out-lent }
+    let q = c .before .before .before .before .before .before .before .before .before .before .before .before .before .before .before .before .before .before .before .before .pre in
+    let b = c .before .before .before .before .before .before .before .before .before .build-tables in
+    let r = q .2 in
+    record { fits = b .ensures .0 .fits; few = b .ensures .1; short = q .1; levels-lent = b .kept .1 .1 .0 ∙ r .levels-lent; entries-lent = b .kept .1 .1 .1 .0 ∙ r .entries-lent; out-lent = b .kept .1 .1 .1 .1 .0 ∙ r .out-lent }
 
 enum-told-3 : tie.Need-enum-told-3
 enum-told-3 c = search needs
@@ -42,7 +42,7 @@ same-length : tie.Need-same-length
 same-length c = search needs
 
 returns : tie.Need-returns
-returns c = let a = c .before .before .before .before .before .before .before .before .before .before .before .before .before .before .before .args in comes-as (query-opening (a .p) (a .number) (a .edges .now) (a .levels .now) (a .entries .now) (tokensOf (a .line .now)) (c .before .before .before .before .enum-told .given .1)) (c .before .before .bad-frame .ensures (a .edges .now) (a .levels .now) (a .entries .now))
+returns c = let a = c .before .before .before .before .before .before .before .before .before .before .before .args in comes-as (query-opening (a .p) (a .number) (a .edges .now) (a .levels .now) (a .entries .now) (tokensOf (a .line .now)) (c .before .before .before .before .enum-told .given .1)) (c .before .before .bad-frame .ensures (a .edges .now) (a .levels .now) (a .entries .now))
 
 same-length-2 : tie.Need-same-length-2
 same-length-2 c = search needs
@@ -53,6 +53,9 @@ same-length-3 c = search needs
 same-length-4 : tie.Need-same-length-4
 same-length-4 c = search needs
 
+returns-2 : tie.Need-returns-2
+returns-2 c = let a = c .before .before .before .before .before .before .before .before .before .before .before .before .before .before .before .before .before .before .before .before .before .before .before .args in comes-as (query-gathering (a .p) (a .number) (a .edges .now) (a .levels .now) (a .entries .now) (tokensOf (a .line .now)) (c .before .before .before .before .before .before .before .before .before .before .before .before .before .before .before .before .enum-told2 .given .1)) (c .before .before .then-ask .ensures _ (a .edges .now) (a .out .now) (c .before .before .before .before .before .before .before .before .before .before .before .before .build-tables .ensures .0))
+
 same-length-5 : tie.Need-same-length-5
 same-length-5 c = search needs
 
@@ -62,35 +65,14 @@ same-length-6 c = search needs
 same-length-7 : tie.Need-same-length-7
 same-length-7 c = search needs
 
+returns-3 : tie.Need-returns-3
+returns-3 c = let a = c .before .before .before .before .before .before .before .before .before .before .before .before .before .args in comes-as (query-answering (a .p) (a .number) (a .edges .now) (a .levels .now) (a .entries .now) (tokensOf (a .line .now)) (c .before .before .before .before .before .before .enum-told3 .given .1)) (c .before .before .then-ask2 .ensures _ (a .edges .now) (a .out .now) (silent-comes (a .p) (a .edges .now) (a .levels .now) (a .entries .now) (a .out .now) (c .before .before .before .before .before .before .before .before .before .before .before .before .before .pre .0)))
+
 same-length-8 : tie.Need-same-length-8
 same-length-8 c = search needs
 
-returns-2 : tie.Need-returns-2
-returns-2 c = let a = c .before .before .before .before .before .before .before .before .before .before .before .before .before .before .before .before .before .before .before .before .before .before .before .before .before .before .before .before .before .before .before .before .before .before .before .before .before .before .before .before .before .before .args in comes-as (query-gathering (a .p) (a .number) (a .edges .now) (a .levels .now) (a .entries .now) (tokensOf (a .line .now)) (c .before .before .before .before .before .before .before .before .before .before .before .before .before .before .before .before .before .before .before .before .before .before .before .before .before .before .before .before .before .before .before .enum-told2 .given .1)) (c .before .before .before .before .before .before .then-ask .ensures _ (a .edges .now) (a .out .now) (c .before .before .before .before .before .before .before .before .before .before .before .before .before .before .before .before .before .before .before .before .before .before .before .before .build-tables .ensures .0))
-
-same-length-9 : tie.Need-same-length-9
-same-length-9 c = search needs
-
-same-length-10 : tie.Need-same-length-10
-same-length-10 c = search needs
-
-same-length-11 : tie.Need-same-length-11
-same-length-11 c = search needs
-
-same-length-12 : tie.Need-same-length-12
-same-length-12 c = search needs
-
-same-length-13 : tie.Need-same-length-13
-same-length-13 c = search needs
-
-returns-3 : tie.Need-returns-3
-returns-3 c = let a = c .before .before .before .before .before .before .before .before .before .before .before .before .before .before .before .before .before .before .before .before .before .before .before .args in comes-as (query-answering (a .p) (a .number) (a .edges .now) (a .levels .now) (a .entries .now) (tokensOf (a .line .now)) (c .before .before .before .before .before .before .before .before .before .before .before .before .enum-told3 .given .1)) (c .before .before .before .before .before .before .then-ask2 .ensures _ (a .edges .now) (a .out .now) (silent-comes (a .p) (a .edges .now) (a .levels .now) (a .entries .now) (a .out .now) (c .before .before .before .before .before .before .before .before .before .before .before .before .before .before .before .before .before .before .before .before .before .before .before .pre .0)))
-
-same-length-14 : tie.Need-same-length-14
-same-length-14 c = search needs
-
 returns-4 : tie.Need-returns-4
-returns-4 c = let a = c .before .before .before .before .before .before .before .before .before .before .before .before .before .before .before .args in comes-as (query-stopped (a .p) (a .number) (a .edges .now) (a .levels .now) (a .entries .now) (tokensOf (a .line .now)) (c .before .before .before .before .enum-told4 .given .1)) (c .before .before .bad-frame2 .ensures (a .edges .now) (a .levels .now) (a .entries .now))
+returns-4 c = let a = c .before .before .before .before .before .before .before .before .before .before .before .args in comes-as (query-stopped (a .p) (a .number) (a .edges .now) (a .levels .now) (a .entries .now) (tokensOf (a .line .now)) (c .before .before .before .before .enum-told4 .given .1)) (c .before .before .bad-frame2 .ensures (a .edges .now) (a .levels .now) (a .entries .now))
 
 pub on-query-spec : {M : Type 1} → statement M
 on-query-spec =
@@ -110,16 +92,10 @@ on-query-spec =
     same-length-2
     same-length-3
     same-length-4
+    returns-2
     same-length-5
     same-length-6
     same-length-7
-    same-length-8
-    returns-2
-    same-length-9
-    same-length-10
-    same-length-11
-    same-length-12
-    same-length-13
     returns-3
-    same-length-14
+    same-length-8
     returns-4)

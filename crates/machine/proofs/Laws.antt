@@ -1,0 +1,6 @@
+pub mod Frames
+pub mod Texts
+pub mod Stages
+pub mod Steps
+pub mod Lines
+pub mod Form

@@ -1,0 +1,6 @@
+pub mod Frames
+pub mod Texts
+pub mod Machine
+pub mod Lines
+pub mod Form
+pub mod Standing
