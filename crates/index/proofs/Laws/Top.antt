@@ -11,7 +11,7 @@ use Rattle.rules.specs.Rule.{Rule}
 use Rattle.rules.specs.Levels.{levelOf}
 use Rattle.rules.specs.Accept.{LevelAccepted}
 use Rattle.rules.proofs.Laws.Accepted.{right-at}
-use Rattle.lists.specs.Sort.{Contiguous}
+use Rattle.sorting.specs.Sort.{Contiguous}
 use Rattle.index.specs.Tables.{Standing}
 use Rattle.index.proofs.Laws.Counts.{square-small}
 use Rattle.parts.proofs.Laws.Parts.{pred-is, take-from}
