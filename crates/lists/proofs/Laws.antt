@@ -1,11 +1,4 @@
--- Laws of the lists: counting sort, relations in the area, the walk over sequences, entries, and how tables are compared with them.
-pub mod Front
-pub mod Sorting
-pub mod Numbers
-pub mod Areas
-pub mod Blocks
-pub mod Marks
-pub mod Difference
+-- Laws of the entry list: entries one by one, the entries of a relation, the walk over sequences, and all lengths.
 pub mod Meeting
 pub mod Went
 pub mod Emitting
@@ -14,7 +7,3 @@ pub mod Sequences
 pub mod Walking
 pub mod Leaves
 pub mod Lengths
-pub mod Matching
-pub mod Places
-pub mod Found
-pub mod Written

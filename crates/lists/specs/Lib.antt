@@ -1,4 +1,1 @@
-pub mod Sort
-pub mod Relations
 pub mod Entries
-pub mod Counters

@@ -1,7 +1,7 @@
 // The entries of one relation: code and class for each class whose first pair it holds. They are counted, written where there is room, and compared with a stored list, in one go.
 
-use super::relations::has_bit;
-use super::relations::labels_in;
+use relations::blocks::has_bit;
+use relations::blocks::labels_in;
 ghost use mathlib.Core.Path.{_≡_};
 ghost use mathlib.Core.List.{List, [], _∷_, _++_};
 ghost use mathlib.Core.Bool.{Bool, cond, not, _&&_};
@@ -10,7 +10,7 @@ ghost use lib.Dec.{eqb};
 ghost use lib.ListN.{length, getD};
 ghost use Rattle.rules.specs.Finite.{countBelow};
 ghost use Rattle.rules.specs.Accept.{difference};
-ghost use Rattle.lists.specs.Relations.{bitAt, Frame, Slot};
+ghost use Rattle.relations.specs.Relations.{bitAt, Frame, Slot};
 ghost use Rattle.lists.specs.Entries.{Went, Firsts, Emitting, isHit, entriesRow, entriesRows};
 
 // How far the entries have come: how many there are, and the first number at which they differ from the stored list.

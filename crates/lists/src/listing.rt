@@ -3,9 +3,9 @@
 use super::entries::Progress;
 use super::entries::emit;
 use super::entries::mark_firsts;
-use super::relations::identity;
-use super::relations::mark_edges;
 use super::sequences::walk;
+use relations::marks::identity;
+use relations::marks::mark_edges;
 ghost use mathlib.Core.Path.{_≡_};
 ghost use mathlib.Core.List.{List};
 ghost use Prim.Native.Nat.{ℕ, _*_, _≤_};
@@ -14,8 +14,8 @@ ghost use Rattle.rules.specs.Accept.{difference};
 ghost use Rattle.rules.specs.Graph.{graphOf};
 ghost use Rattle.rules.specs.Levels.{maxOf};
 ghost use Rattle.rules.specs.Lists.{entriesUpTo, entriesOf};
-ghost use Rattle.lists.specs.Sort.{Contiguous};
-ghost use Rattle.lists.specs.Relations.{Frame, EdgesIn, Marked};
+ghost use Rattle.sorting.specs.Sort.{Contiguous};
+ghost use Rattle.relations.specs.Relations.{Frame, EdgesIn, Marked};
 ghost use Rattle.lists.specs.Entries.{Went, Firsts, Listing, Listed, Compared};
 
 // The entries of all sequences of 0 to k symbols, where the steps of the edges and the first positions are marked.

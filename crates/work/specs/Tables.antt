@@ -15,8 +15,8 @@ use Rattle.rules.specs.Lists.{startsOf, orderOf, entriesOf}
 use Rattle.rules.specs.Verdict.{Verdict, _orElse_}
 use Rattle.rules.specs.Accept.{Index, sameList}
 use Rattle.rules.specs.Outcomes.{front, zeroed, BuildCall, BuildEnd, CheckCall, CheckEnd}
-use Rattle.lists.specs.Sort.{Contiguous}
-use Rattle.lists.specs.Relations.{EdgesIn}
+use Rattle.sorting.specs.Sort.{Contiguous}
+use Rattle.relations.specs.Relations.{EdgesIn}
 
 -- a build that is to end as o
 pub record EndsAs (o e : BuildEnd) : Type 0 where

@@ -2,9 +2,9 @@
 use crate::top;
 use levels::all::build_levels;
 use lists::listing::write_entries;
-use lists::sort;
 use rules::Built;
 use rules::Refusal;
+use sorting::sort;
 ghost use mathlib.Core.Path.{_≡_};
 ghost use Rattle.rules.specs.Graph.{graphOf};
 ghost use Rattle.rules.specs.Verdict.{good};

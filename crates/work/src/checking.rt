@@ -2,9 +2,9 @@
 use crate::top;
 use levels::all::check_levels;
 use lists::listing::match_entries;
-use lists::matching::match_lists;
 use rules::Checked;
 use rules::Refusal;
+use sorting::matching::match_lists;
 ghost use mathlib.Core.Path.{_≡_};
 ghost use Prim.Native.Nat.{_*_};
 ghost use mathlib.Core.Bool.{_&&_, not};
@@ -14,7 +14,7 @@ ghost use Rattle.rules.specs.Rule.{rule};
 ghost use Rattle.rules.specs.Verdict.{good};
 ghost use Rattle.rules.specs.Accept.{accepts};
 ghost use Rattle.rules.specs.Outcomes.{checkRefusal, told};
-ghost use Rattle.lists.specs.Relations.{Frame};
+ghost use Rattle.relations.specs.Relations.{Frame};
 ghost use Rattle.rules.specs.Calls.{indexOf, checkCall};
 ghost use Rattle.work.specs.Tables.{ListsStored, listsVerdict};
 

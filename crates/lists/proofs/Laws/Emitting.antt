@@ -17,9 +17,9 @@ use Rattle.rules.proofs.Laws.Tests.{either}
 use Rattle.rules.proofs.Laws.Finite.{none-any}
 use Rattle.rules.proofs.Laws.Loops.{first-found}
 use Rattle.rules.proofs.Laws.Places.{place-lt, place-row, place-column}
-use Rattle.lists.proofs.Laws.Numbers.{max-none, max-step, max-all, max-mono}
-use Rattle.lists.specs.Sort.{Contiguous}
-use Rattle.lists.specs.Relations.{bitAt, Slot}
+use Rattle.sorting.proofs.Laws.Numbers.{max-none, max-step, max-all, max-mono}
+use Rattle.sorting.specs.Sort.{Contiguous}
+use Rattle.relations.specs.Relations.{bitAt, Slot}
 use Rattle.lists.specs.Entries.{isFirst, entriesRow, entriesRows, Firsts}
 
 -- ---- the marks of first positions

@@ -12,9 +12,9 @@ use lib.ListN.{length, getD, length-append}
 use Rattle.rules.specs.Finite.{countBelow}
 use Rattle.rules.specs.Accept.{difference}
 use Rattle.rules.proofs.Laws.Places.{place-lt}
-use Rattle.lists.specs.Relations.{bitAt, Slot}
+use Rattle.relations.specs.Relations.{bitAt, Slot}
 use Rattle.lists.specs.Entries.{Went, Firsts, isFirst, isHit, entriesRow}
-use Rattle.lists.proofs.Laws.Difference.{difference-is}
+use Rattle.sorting.proofs.Laws.Difference.{difference-is}
 use Rattle.lists.proofs.Laws.Went.{went-as, went-none}
 
 -- one position

@@ -9,9 +9,9 @@ use lib.ListN.{length, drop}
 use Rattle.rules.specs.Graph.{Graph, graphOf}
 use Rattle.rules.specs.Levels.{maxOf}
 use Rattle.rules.specs.Lists.{joins, codeFrom, entriesBehind, entriesUpTo, entriesOf, eachUpTo}
-use Rattle.lists.proofs.Laws.Difference.{is-difference}
+use Rattle.sorting.proofs.Laws.Difference.{is-difference}
 use Rattle.lists.proofs.Laws.Leaves.{leaf}
-use Rattle.lists.specs.Sort.{Contiguous}
+use Rattle.sorting.specs.Sort.{Contiguous}
 use Rattle.lists.specs.Entries.{Went, Listed, Compared, entriesRows}
 
 -- the entries of the sequences of 1 to j symbols

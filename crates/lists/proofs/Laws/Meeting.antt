@@ -6,7 +6,7 @@ use native.Mathlib.Nat.{not-suc-le-zero}
 use native.Mathlib.Omega.{arith}
 use lib.ListN.{length, getD}
 use Rattle.rules.specs.Accept.{difference}
-use Rattle.lists.proofs.Laws.Difference.{met-off, met-on, met-right}
+use Rattle.sorting.proofs.Laws.Difference.{met-off, met-on, met-right}
 
 module _ (s : List ℕ) (m k a b : ℕ) (p : List ℕ) (lp : length p ≡ 2 * k) (em : m ≡ difference p s) where
   pub meet-off : (m ≡ 2 * k → ⊥) → m ≡ difference (p ++ (a ∷ (b ∷ []))) s

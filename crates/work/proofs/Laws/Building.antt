@@ -24,10 +24,10 @@ use Rattle.rules.proofs.Laws.Calls.{BuildPassed, build-passed}
 use Rattle.rules.proofs.Laws.Levels.{level-size, level-front, levels-size, level-written}
 use Rattle.rules.proofs.Laws.Builder.{level-ok}
 use Rattle.levels.specs.Needs.{EdgesFit, Room, Past}
-use Rattle.lists.specs.Sort.{Contiguous, AtMost, Fills}
+use Rattle.sorting.specs.Sort.{Contiguous, AtMost, Fills}
 use Rattle.lists.specs.Entries.{Listing, Listed}
-use Rattle.lists.proofs.Laws.Sorting.{upTo-le}
-use Rattle.lists.proofs.Laws.Numbers.{at-most, max-few}
+use Rattle.sorting.proofs.Laws.Sorting.{upTo-le}
+use Rattle.sorting.proofs.Laws.Numbers.{at-most, max-few}
 use Rattle.rules.specs.Calls.{buildEnd}
 use Rattle.work.specs.Tables.{EndsAs, Standing, ListsStored, ListsReady, ListsWritten}
 use Rattle.work.proofs.Laws.Fronts.{front-in, zeroed-past}

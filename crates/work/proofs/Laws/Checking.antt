@@ -25,12 +25,12 @@ use Rattle.rules.proofs.Laws.Accepted.{accepted-at}
 use Rattle.rules.proofs.Laws.Calls.{Passed, passed, top-length}
 use Rattle.rules.proofs.Theorems.Acceptance.{check-worked, check-refused}
 use Rattle.levels.specs.Needs.{EdgesFit, Room}
-use Rattle.lists.specs.Relations.{Frame}
+use Rattle.relations.specs.Relations.{Frame}
 use Rattle.lists.specs.Entries.{Compared}
-use Rattle.lists.specs.Counters.{Matching, Matches}
-use Rattle.lists.proofs.Laws.Difference.{difference-is}
-use Rattle.lists.proofs.Laws.Numbers.{max-few}
-use Rattle.lists.proofs.Laws.Sorting.{upTo-le}
+use Rattle.sorting.specs.Counters.{Matching, Matches}
+use Rattle.sorting.proofs.Laws.Difference.{difference-is}
+use Rattle.sorting.proofs.Laws.Numbers.{max-few}
+use Rattle.sorting.proofs.Laws.Sorting.{upTo-le}
 use Rattle.rules.specs.Calls.{checkEnd}
 use Rattle.work.specs.Tables.{Standing, ListsStored, listsVerdict}
 use Rattle.work.proofs.Laws.Fronts.{cleared}

@@ -10,8 +10,8 @@ use Rattle.rules.specs.Levels.{maxOf}
 use Rattle.rules.specs.Lists.{codeFrom, entriesOf}
 use Rattle.rules.specs.Published.{Symbols, end, symbol}
 use Rattle.rules.proofs.Laws.Entries.{Rising, none, more, least, code-range, up-rising}
-use Rattle.lists.specs.Sort.{Contiguous}
-use Rattle.lists.proofs.Laws.Numbers.{max-few}
+use Rattle.sorting.specs.Sort.{Contiguous}
+use Rattle.sorting.proofs.Laws.Numbers.{max-few}
 
 -- n·n positions of at most 128 items
 pub square-small : (n : ℕ) → n ≤ 128 → n * n ≤ 16384

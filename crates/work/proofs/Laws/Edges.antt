@@ -4,7 +4,7 @@ use mathlib.Core.List.{List}
 use native.Mathlib.Omega.{arith}
 use Rattle.rules.proofs.Laws.Links.{EdgesIn}
 use Rattle.levels.specs.Needs.{EdgesFit}
-use Rattle.lists.specs.Relations.{EdgesIn as Inside}
+use Rattle.relations.specs.Relations.{EdgesIn as Inside}
 
 module _ (n labels : ℕ) (edges : List ℕ) (fit : EdgesIn n labels edges) where
   pub edges-fit : (m : ℕ) → labels ≤ m → EdgesFit n m edges

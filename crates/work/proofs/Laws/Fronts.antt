@@ -10,8 +10,8 @@ use Rattle.rules.specs.Writing.{fill}
 use Rattle.rules.specs.Outcomes.{front, zeroed}
 use Rattle.rules.proofs.Laws.Listing.{table-length}
 pub use Rattle.rules.proofs.Laws.Fronts.{front-in}
-pub use Rattle.lists.proofs.Laws.Areas.{frame-trans}
-use Rattle.lists.specs.Relations.{Frame}
+pub use Rattle.relations.proofs.Laws.Areas.{frame-trans}
+use Rattle.relations.specs.Relations.{Frame}
 use Rattle.area.proofs.Laws.Zeroed.{zeroed-again}
 
 -- a change of fewer places

@@ -12,7 +12,7 @@ use Rattle.rules.specs.Levels.{levelOf}
 use Rattle.rules.specs.Accept.{LevelAccepted}
 use Rattle.rules.proofs.Laws.Accepted.{right-at}
 use Rattle.rules.proofs.Laws.Slices.{pred-is, take-from}
-use Rattle.lists.specs.Sort.{Contiguous}
+use Rattle.sorting.specs.Sort.{Contiguous}
 use Rattle.work.specs.Tables.{Standing}
 use Rattle.work.proofs.Laws.Counts.{square-small}
 

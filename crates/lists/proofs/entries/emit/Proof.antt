@@ -6,7 +6,7 @@ use native.Mathlib.Omega.{arith}
 use native.Mathlib.Numerals.{add-one}
 use borrow.Author.Tests.{not-true}
 use lib.ListN.{length}
-use Rattle.lists.specs.Relations.{Slot}
+use Rattle.relations.specs.Relations.{Slot}
 use Rattle.rules.proofs.Laws.Places.{row-fits, square-le}
 use Rattle.lists.specs.Entries.{Went, Firsts, entriesRows}
 use Rattle.lists.proofs.Laws.Went as went

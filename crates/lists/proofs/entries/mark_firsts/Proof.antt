@@ -4,13 +4,13 @@ use mathlib.Core.Path.{_≡_}
 use mathlib.Core.Bool.{cond}
 use native.Mathlib.Omega.{arith}
 use lib.ListN.{length, take}
-use Rattle.lists.specs.Relations.{Run}
-use Rattle.lists.proofs.Laws.Areas as areas
+use Rattle.relations.specs.Relations.{Run}
+use Rattle.relations.proofs.Laws.Areas as areas
 use Rattle.rules.proofs.Laws.Places.{square-le}
 use Rattle.lists.specs.Entries.{isFirst}
 use Rattle.rules.specs.Levels.{maxOf}
 use Rattle.lists.proofs.Laws.Emitting as emitting
-use Rattle.lists.proofs.Laws.Numbers as numbers
+use Rattle.sorting.proofs.Laws.Numbers as numbers
 use Rattle.lists.proofs.entries.mark_firsts.Statement.{statement}
 use Rattle.lists.proofs.entries.mark_firsts.Tie as tie
 

@@ -5,7 +5,7 @@ use mathlib.Core.Bool.{Bool}
 use native.Mathlib.Omega.{arith}
 use borrow.Author.Tests.{not-true, not-false}
 use lib.ListN.{length}
-use Rattle.lists.specs.Relations.{Slot}
+use Rattle.relations.specs.Relations.{Slot}
 use Rattle.rules.proofs.Laws.Places.{place-lt, row-fits, square-le}
 use Rattle.lists.specs.Entries.{Went, Firsts, entriesRow}
 use Rattle.lists.proofs.Laws.Went as went

@@ -4,14 +4,14 @@ use mathlib.Core.Path.{_≡_, refl, _∙_}
 use mathlib.Core.List.{List, []}
 use native.Mathlib.Omega.{arith}
 use lib.ListN.{length}
-use Rattle.lists.specs.Relations.{Frame, Marked}
-use Rattle.lists.proofs.Laws.Areas as areas
+use Rattle.relations.specs.Relations.{Frame, Marked}
+use Rattle.relations.proofs.Laws.Areas as areas
 use Rattle.rules.proofs.Laws.Places.{square-le}
 use Rattle.lists.specs.Entries.{Went, Firsts}
 use Rattle.lists.proofs.Laws.Went as went
 use Rattle.rules.specs.Levels.{maxOf}
 use Rattle.rules.specs.Graph.{graphOf}
-use Rattle.lists.specs.Sort.{Contiguous}
+use Rattle.sorting.specs.Sort.{Contiguous}
 use Rattle.lists.proofs.Laws.Walking as walking
 use Rattle.lists.proofs.Laws.Leaves as leaving
 use Rattle.lists.proofs.Laws.Lengths as listed

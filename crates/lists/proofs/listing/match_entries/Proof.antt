@@ -1,7 +1,7 @@
 -- One walk from the marks of the edges and of the first positions: its progress is the count and the first difference (`compared`).
 use native.Mathlib.Omega.{arith}
 use borrow.Author.Needs.{needs}
-use Rattle.lists.proofs.Laws.Areas as areas
+use Rattle.relations.proofs.Laws.Areas as areas
 use Rattle.rules.specs.Graph.{graphOf}
 use Rattle.lists.proofs.Laws.Walking as walking
 use Rattle.lists.proofs.Laws.Lengths as listed

@@ -5,7 +5,7 @@ use mathlib.Core.List.{List, _++_}
 use native.Mathlib.Omega.{arith}
 use borrow.Author.Needs.{needs}
 use lib.ListN.{length, drop}
-use Rattle.lists.proofs.Laws.Areas as areas
+use Rattle.relations.proofs.Laws.Areas as areas
 use Rattle.rules.specs.Graph.{graphOf}
 use Rattle.lists.proofs.Laws.Walking as walking
 use Rattle.lists.proofs.Laws.Lengths as listed
