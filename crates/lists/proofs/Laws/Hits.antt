@@ -1,6 +1,6 @@
 -- Counting the entries of a row without making them.
 use Prim.Native.Nat.{ℕ, zero, suc, _+_, _*_, _/_, _%_, _^_, _≤_, _<_}
-use mathlib.Core.Path.{_≡_, refl, sym, ap, ap₂, _∙_}
+use mathlib.Core.Path.{_≡_, refl, ap, ap₂, _∙_}
 use mathlib.Core.List.{List, [], _∷_, _++_}
 use mathlib.Core.Bool.{Bool, true, false, cond, not, _&&_}
 use native.Mathlib.Nat.{mod-lt}
@@ -10,7 +10,6 @@ use borrow.Author.Tests.{eq-eqb, ne-eqb}
 use lib.Dec.{eqb}
 use lib.ListN.{length, getD, length-append}
 use Rattle.rules.specs.Finite.{countBelow}
-use Rattle.rules.specs.Accept.{difference}
 use Rattle.rules.proofs.Laws.Places.{place-lt}
 use Rattle.relations.specs.Relations.{bitAt, Slot}
 use Rattle.lists.specs.Entries.{Went, Firsts, isFirst, isHit, entriesRow}
