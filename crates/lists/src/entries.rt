@@ -4,14 +4,14 @@ use relations::blocks::has_bit;
 use relations::blocks::labels_in;
 ghost use mathlib.Core.Path.{_≡_};
 ghost use mathlib.Core.List.{List, [], _∷_, _++_};
-ghost use mathlib.Core.Bool.{Bool, cond, not, _&&_};
-ghost use Prim.Native.Nat.{ℕ, _+_, _*_, _≤_, _<_};
+ghost use mathlib.Core.Bool.{Bool, true, cond, not, _&&_};
+ghost use Prim.Native.Nat.{ℕ, _+_, _*_, _-_, _≤_, _<_};
 ghost use lib.Dec.{eqb};
 ghost use lib.ListN.{length, getD};
 ghost use Rattle.rules.specs.Finite.{countBelow};
 ghost use Rattle.rules.specs.Accept.{difference};
 ghost use Rattle.relations.specs.Relations.{bitAt, Frame, Slot};
-ghost use Rattle.lists.specs.Entries.{Went, Firsts, Emitting, isHit, entriesRow, entriesRows};
+ghost use Rattle.lists.specs.Entries.{Went, Firsts, Emitting, isHit, Misses, entriesRow, entriesRows};
 
 // How far the entries have come: how many there are, and the first number at which they differ from the stored list.
 pub struct Progress {
@@ -106,6 +106,20 @@ fn count_row(area: &[u8], from: usize, firsts: usize, l: usize, n: usize) -> usi
     some as usize
 }
 
+// Sixteen positions from u on lie in a row of n, and none of them is a first one that has bit l.
+fn misses(area: &[u8], from: usize, firsts: usize, l: usize, u: usize, n: usize) -> bool
+    requires { ⌜ (l < 8) × (u ≤ n) × (n ≤ 128) × (from + (n - u) ≤ length (now area)) × (firsts + (n - u) ≤ length (now area)) ⌝ }
+    ensures { λ r. ⌜ (r ≡ true → Misses (now (area .entry)) from firsts l u n) ⌝ }
+{
+    if u % 16 != 0 {
+        return false;
+    }
+    if n < u + 16 {
+        return false;
+    }
+    count_row(area, from, firsts, l, 16) == 0
+}
+
 // The entries of row v of the relation that bit l of the block at `from` holds, one by one.
 fn put_row(
     table: &[u32],
@@ -128,6 +142,10 @@ fn put_row(
     let mut u: usize = 0;
     while u < n {
         let p = row + u;
+        if misses(area, from + p, firsts + p, l, u, n) {
+            u += 16;
+            continue;
+        }
         if area[firsts + p] == 0 {
             u += 1;
             continue;
@@ -158,18 +176,15 @@ fn emit_row(
     requires { ⌜ (v < n) × (Emitting (now table) n l from (past .count) n (now area)) ⌝ }
     ensures { λ r. ⌜ (r .count ≤ past .count + n) × ((J : ℕ → ℕ → Bool) → Slot n from l (now (area .entry)) J → Firsts n (now (table .entry)) (now (area .entry)) → Went (past .count) (past .met) (r .count) (r .met) (entriesRow n (now (table .entry)) J code v n) (now (stored .entry)) (now (out .entry)) (now (out .exit))) ⌝ }
 {
+    if stored.len() + out.len() != 0 {
+        return put_row(table, n, v, code, from, l, area, stored, out, past);
+    }
     let row = v * n;
     let some = count_row(area, from + row, 8 * (n * n) + row, l, n);
-    if some == 0 {
-        return past;
+    Progress {
+        count: past.count + some,
+        met: past.met,
     }
-    if stored.len() + out.len() == 0 {
-        return Progress {
-            count: past.count + some,
-            met: past.met,
-        };
-    }
-    put_row(table, n, v, code, from, l, area, stored, out, past)
 }
 
 // The entries of the relation that bit l of the block at `from` holds. Rows without that bit are passed over.

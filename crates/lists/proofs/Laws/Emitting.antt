@@ -54,7 +54,7 @@ module _ (n : ℕ) (t : List ℕ) (J : ℕ → ℕ → Bool) (code v : ℕ) wher
   unfolding entriesRow
   step u b e = rw (add-one u) (rw e)
 
-  row-miss : (u : ℕ) → (isFirst t (v * n + u) && J v u) ≡ false → entriesRow n t J code v u ≡ entriesRow n t J code v (u + 1)
+  pub row-miss : (u : ℕ) → (isFirst t (v * n + u) && J v u) ≡ false → entriesRow n t J code v u ≡ entriesRow n t J code v (u + 1)
   row-miss u e = sym (step u false e ∙ append-nil (entriesRow n t J code v u))
 
   module _ (w : List ℕ) (firsts : Firsts n t w) (u : ℕ) (hv : v < n) (hu : u < n) where

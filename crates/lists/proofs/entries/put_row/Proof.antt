@@ -1,4 +1,4 @@
--- The invariant: the entries of the first u places have gone by. A later position and a missing bit add none.
+-- The invariant: the entries of the first u places have gone by. A later position and a missing bit add none, and neither do sixteen places without a hit.
 use Prim.Native.Nat.{ℕ, _+_, _*_, _-_, _≤_, _<_}
 use mathlib.Core.Path.{_≡_, refl, sym, ap, _∙_}
 use mathlib.Core.Bool.{Bool}
@@ -10,6 +10,7 @@ use Rattle.rules.proofs.Laws.Places.{place-lt, row-fits, square-le}
 use Rattle.lists.specs.Entries.{Went, Firsts, entriesRow}
 use Rattle.lists.proofs.Laws.Went as went
 use Rattle.lists.proofs.Laws.Emitting as emitting
+use Rattle.lists.proofs.Laws.Hits as hits
 use Rattle.lists.proofs.entries.put_row.Statement.{statement}
 use Rattle.lists.proofs.entries.put_row.Tie as tie
 
@@ -37,37 +38,41 @@ loop-holds c = (omega arith, omega arith, refl, λ J s f. went.went-as _ _ _ _ _
 add-p : tie.Need-add-p Inv-loop μ-loop
 add-p c = omega (arith, cell (c), square-le (c .before .before .before .before .before .before .pre .1 .small))
 
-add-if1 : tie.Need-add-if1 Inv-loop μ-loop
-add-if1 c = omega (arith, cell (c), square-le (c .before .before .before .before .before .before .pre .1 .small))
+add-misses : tie.Need-add-misses Inv-loop μ-loop
+add-misses c = omega (arith, cell c, c .before .before .before .before .before .before .pre .1 .room)
 
-shared-slice-read-if1 : tie.Need-shared-slice-read-if1 Inv-loop μ-loop
-shared-slice-read-if1 c = omega (arith, cell (c .before), c .before .before .before .before .before .before .before .pre .1 .area)
+add-misses-2 : tie.Need-add-misses-2 Inv-loop μ-loop
+add-misses-2 c = omega (arith, cell c, square-le (c .before .before .before .before .before .before .pre .1 .small))
+
+misses-requires : tie.Need-misses-requires Inv-loop μ-loop
+misses-requires c κs =
+    let a = c .before .before .before .before .before .before .pre .1 in
+    let f = row-fits (c .before .before .before .before .before .before .args .n) (c .before .before .before .before .before .before .pre .0) in
+    (a .label, c .before .loop .inv .0, a .small, omega (arith, c .before .loop .inv .0, f, a .room), omega (arith, c .before .loop .inv .0, f, a .area))
 
 add-u : tie.Need-add-u Inv-loop μ-loop
-add-u c = omega arith
+add-u c = omega (arith, c .before .misses .ensures (c .if1 .taken) .inside)
 
 loop-less : tie.Need-loop-less Inv-loop μ-loop
-loop-less c = omega arith
+loop-less c = omega (arith, c .before .misses .ensures (c .if1 .taken) .inside)
 
 loop-again : tie.Need-loop-again Inv-loop μ-loop
-loop-again c = (
-  omega arith,
-  omega (arith, c .before .before .before .loop .inv .1),
-  c .before .before .before .loop .inv .2,
-  λ J s f.
-      went.went-as _ _ _ _ _ _ _ _ _
-      (emitting.row-later (c .before .before .before .before .before .before .before .before .args .n) (c .before .before .before .before .before .before .before .before .args .table .now) J (c .before .before .before .before .before .before .before .before .args .code) (c .before .before .before .before .before .before .before .before .args .v) (c .before .before .before .before .before .before .before .before .args .area .now) f (c .before .before .before .loop .u) (c .before .before .before .before .before .before .before .before .pre .0) (c .before .before .loop-test .taken) (c .if1 .taken))
-      (c .before .before .before .loop .inv .3 J s f),
-)
+loop-again c =
+    let b = c .before .misses .ensures (c .if1 .taken) in (
+      b .inside,
+      omega (arith, c .before .before .before .loop .inv .1),
+      c .before .before .before .loop .inv .2,
+      λ J s f.
+          went.went-as _ _ _ _ _ _ _ _ _
+          (hits.row-misses (c .before .before .before .before .before .before .before .before .args .n) (c .before .before .before .before .before .before .before .before .args .table .now) J (c .before .before .before .before .before .before .before .before .args .code) (c .before .before .before .before .before .before .before .before .args .v) (c .before .before .before .before .before .before .before .before .args .from) (c .before .before .before .before .before .before .before .before .args .l) (c .before .before .before .before .before .before .before .before .args .area .now) (c .before .before .before .before .before .before .before .before .pre .0) s f (c .before .before .before .loop .u) b)
+          (c .before .before .before .loop .inv .3 J s f),
+    )
 
-add-has-bit : tie.Need-add-has-bit Inv-loop μ-loop
-add-has-bit c = omega (arith, cell (c .before .before), c .before .before .before .before .before .before .before .before .pre .1 .room)
+add-if2 : tie.Need-add-if2 Inv-loop μ-loop
+add-if2 c = omega (arith, cell (c .before .before), square-le (c .before .before .before .before .before .before .before .before .pre .1 .small))
 
-shared-slice-read-has-bit : tie.Need-shared-slice-read-has-bit Inv-loop μ-loop
-shared-slice-read-has-bit c = omega (arith, cell (c .before .before .before), c .before .before .before .before .before .before .before .before .before .pre .1 .room)
-
-has-bit-requires : tie.Need-has-bit-requires Inv-loop μ-loop
-has-bit-requires c κs = c .before .before .before .before .before .before .before .before .before .pre .1 .label
+shared-slice-read-if2 : tie.Need-shared-slice-read-if2 Inv-loop μ-loop
+shared-slice-read-if2 c = omega (arith, cell (c .before .before .before), c .before .before .before .before .before .before .before .before .before .pre .1 .area)
 
 add-u-2 : tie.Need-add-u-2 Inv-loop μ-loop
 add-u-2 c = omega arith
@@ -78,23 +83,22 @@ loop-less-2 c = omega arith
 loop-again-2 : tie.Need-loop-again-2 Inv-loop μ-loop
 loop-again-2 c = (
   omega arith,
-  omega (arith, c .before .before .before .before .before .before .loop .inv .1),
-  c .before .before .before .before .before .before .loop .inv .2,
+  omega (arith, c .before .before .before .before .before .loop .inv .1),
+  c .before .before .before .before .before .loop .inv .2,
   λ J s f.
       went.went-as _ _ _ _ _ _ _ _ _
-      (emitting.row-without (c .before .before .before .before .before .before .before .before .before .before .before .args .n) (c .before .before .before .before .before .before .before .before .before .before .before .args .table .now) J (c .before .before .before .before .before .before .before .before .before .before .before .args .code) (c .before .before .before .before .before .before .before .before .before .before .before .args .v) (c .before .before .before .before .before .before .before .before .before .before .before .args .area .now) f (c .before .before .before .before .before .before .loop .u) (c .before .before .before .before .before .before .before .before .before .before .before .pre .0) (c .before .before .before .before .before .loop-test .taken) (c .before .before .before .before .before .before .before .before .before .before .before .args .from) (c .before .before .before .before .before .before .before .before .before .before .before .args .l) s
-      (sym (c .before .has-bit .ensures) ∙ not-true _ (c .if2 .taken)))
-      (c .before .before .before .before .before .before .loop .inv .3 J s f),
+      (emitting.row-later (c .before .before .before .before .before .before .before .before .before .before .args .n) (c .before .before .before .before .before .before .before .before .before .before .args .table .now) J (c .before .before .before .before .before .before .before .before .before .before .args .code) (c .before .before .before .before .before .before .before .before .before .before .args .v) (c .before .before .before .before .before .before .before .before .before .before .args .area .now) f (c .before .before .before .before .before .loop .u) (c .before .before .before .before .before .before .before .before .before .before .pre .0) (c .before .before .before .before .loop-test .taken) (c .if2 .taken))
+      (c .before .before .before .before .before .loop .inv .3 J s f),
 )
 
-mul-put : tie.Need-mul-put Inv-loop μ-loop
-mul-put c = omega (arith, cell (c .before .before .before .before .before .before), square-le (c .before .before .before .before .before .before .before .before .before .before .before .before .pre .1 .small))
+add-has-bit : tie.Need-add-has-bit Inv-loop μ-loop
+add-has-bit c = omega (arith, cell (c .before .before .before .before), c .before .before .before .before .before .before .before .before .before .before .pre .1 .room)
 
-shared-slice-read-put : tie.Need-shared-slice-read-put Inv-loop μ-loop
-shared-slice-read-put c = omega (arith, cell (c .before .before .before .before .before .before .before), c .before .before .before .before .before .before .before .before .before .before .before .before .before .pre .1 .square)
+shared-slice-read-has-bit : tie.Need-shared-slice-read-has-bit Inv-loop μ-loop
+shared-slice-read-has-bit c = omega (arith, cell (c .before .before .before .before .before), c .before .before .before .before .before .before .before .before .before .before .before .pre .1 .room)
 
-put-requires : tie.Need-put-requires Inv-loop μ-loop
-put-requires c κs = omega (arith, c .before .before .before .before .before .before .before .before .loop .inv .1, c .before .before .before .before .before .before .before .before .before .before .before .before .before .pre .1 .few)
+has-bit-requires : tie.Need-has-bit-requires Inv-loop μ-loop
+has-bit-requires c κs = c .before .before .before .before .before .before .before .before .before .before .before .pre .1 .label
 
 add-u-3 : tie.Need-add-u-3 Inv-loop μ-loop
 add-u-3 c = omega arith
@@ -105,13 +109,40 @@ loop-less-3 c = omega arith
 loop-again-3 : tie.Need-loop-again-3 Inv-loop μ-loop
 loop-again-3 c = (
   omega arith,
-  omega (arith, c .before .before .before .before .before .before .before .before .before .before .before .loop .inv .1, c .before .before .put .ensures .0),
-  c .before .before .put .ensures .1 .size ∙ c .before .before .before .before .before .before .before .before .before .before .before .loop .inv .2,
+  omega (arith, c .before .before .before .before .before .before .before .before .loop .inv .1),
+  c .before .before .before .before .before .before .before .before .loop .inv .2,
   λ J s f.
       went.went-as _ _ _ _ _ _ _ _ _
-      (emitting.row-with (c .before .before .before .before .before .before .before .before .before .before .before .before .before .before .before .before .args .n) (c .before .before .before .before .before .before .before .before .before .before .before .before .before .before .before .before .args .table .now) J (c .before .before .before .before .before .before .before .before .before .before .before .before .before .before .before .before .args .code) (c .before .before .before .before .before .before .before .before .before .before .before .before .before .before .before .before .args .v) (c .before .before .before .before .before .before .before .before .before .before .before .before .before .before .before .before .args .area .now) f (c .before .before .before .before .before .before .before .before .before .before .before .loop .u) (c .before .before .before .before .before .before .before .before .before .before .before .before .before .before .before .before .pre .0) (c .before .before .before .before .before .before .before .before .before .before .loop-test .taken) (c .before .before .before .before .before .before .before .before .before .before .before .before .before .before .before .before .args .from) (c .before .before .before .before .before .before .before .before .before .before .before .before .before .before .before .before .args .l) s
-      (c .before .before .before .before .before .before .before .before .if1 .left) (sym (c .before .before .before .before .before .before .has-bit .ensures) ∙ not-false _ (c .before .before .before .before .before .if2 .left)))
-      (went.went-trans _ _ _ _ _ _ _ _ _ _ _ _ (c .before .before .before .before .before .before .before .before .before .before .before .loop .inv .3 J s f) (c .before .before .put .ensures .1)),
+      (emitting.row-without (c .before .before .before .before .before .before .before .before .before .before .before .before .before .args .n) (c .before .before .before .before .before .before .before .before .before .before .before .before .before .args .table .now) J (c .before .before .before .before .before .before .before .before .before .before .before .before .before .args .code) (c .before .before .before .before .before .before .before .before .before .before .before .before .before .args .v) (c .before .before .before .before .before .before .before .before .before .before .before .before .before .args .area .now) f (c .before .before .before .before .before .before .before .before .loop .u) (c .before .before .before .before .before .before .before .before .before .before .before .before .before .pre .0) (c .before .before .before .before .before .before .before .loop-test .taken) (c .before .before .before .before .before .before .before .before .before .before .before .before .before .args .from) (c .before .before .before .before .before .before .before .before .before .before .before .before .before .args .l) s
+      (sym (c .before .has-bit .ensures) ∙ not-true _ (c .if3 .taken)))
+      (c .before .before .before .before .before .before .before .before .loop .inv .3 J s f),
+)
+
+mul-put : tie.Need-mul-put Inv-loop μ-loop
+mul-put c = omega (arith, cell (c .before .before .before .before .before .before .before .before), square-le (c .before .before .before .before .before .before .before .before .before .before .before .before .before .before .pre .1 .small))
+
+shared-slice-read-put : tie.Need-shared-slice-read-put Inv-loop μ-loop
+shared-slice-read-put c = omega (arith, cell (c .before .before .before .before .before .before .before .before .before), c .before .before .before .before .before .before .before .before .before .before .before .before .before .before .before .pre .1 .square)
+
+put-requires : tie.Need-put-requires Inv-loop μ-loop
+put-requires c κs = omega (arith, c .before .before .before .before .before .before .before .before .before .before .loop .inv .1, c .before .before .before .before .before .before .before .before .before .before .before .before .before .before .before .pre .1 .few)
+
+add-u-4 : tie.Need-add-u-4 Inv-loop μ-loop
+add-u-4 c = omega arith
+
+loop-less-4 : tie.Need-loop-less-4 Inv-loop μ-loop
+loop-less-4 c = omega arith
+
+loop-again-4 : tie.Need-loop-again-4 Inv-loop μ-loop
+loop-again-4 c = (
+  omega arith,
+  omega (arith, c .before .before .before .before .before .before .before .before .before .before .before .before .before .loop .inv .1, c .before .before .put .ensures .0),
+  c .before .before .put .ensures .1 .size ∙ c .before .before .before .before .before .before .before .before .before .before .before .before .before .loop .inv .2,
+  λ J s f.
+      went.went-as _ _ _ _ _ _ _ _ _
+      (emitting.row-with (c .before .before .before .before .before .before .before .before .before .before .before .before .before .before .before .before .before .before .args .n) (c .before .before .before .before .before .before .before .before .before .before .before .before .before .before .before .before .before .before .args .table .now) J (c .before .before .before .before .before .before .before .before .before .before .before .before .before .before .before .before .before .before .args .code) (c .before .before .before .before .before .before .before .before .before .before .before .before .before .before .before .before .before .before .args .v) (c .before .before .before .before .before .before .before .before .before .before .before .before .before .before .before .before .before .before .args .area .now) f (c .before .before .before .before .before .before .before .before .before .before .before .before .before .loop .u) (c .before .before .before .before .before .before .before .before .before .before .before .before .before .before .before .before .before .before .pre .0) (c .before .before .before .before .before .before .before .before .before .before .before .before .loop-test .taken) (c .before .before .before .before .before .before .before .before .before .before .before .before .before .before .before .before .before .before .args .from) (c .before .before .before .before .before .before .before .before .before .before .before .before .before .before .before .before .before .before .args .l) s
+      (c .before .before .before .before .before .before .before .before .if2 .left) (sym (c .before .before .before .before .before .before .has-bit .ensures) ∙ not-false _ (c .before .before .before .before .before .if3 .left)))
+      (went.went-trans _ _ _ _ _ _ _ _ _ _ _ _ (c .before .before .before .before .before .before .before .before .before .before .before .before .before .loop .inv .3 J s f) (c .before .before .put .ensures .1)),
 )
 
 same-length : tie.Need-same-length Inv-loop μ-loop
@@ -134,22 +165,28 @@ put-row-spec =
     mul-firsts-2
     loop-holds
     add-p
-    add-if1
-    shared-slice-read-if1
+    add-misses
+    add-misses-2
+    misses-requires
     add-u
     loop-less
     loop-again
-    add-has-bit
-    shared-slice-read-has-bit
-    has-bit-requires
+    add-if2
+    shared-slice-read-if2
     add-u-2
     loop-less-2
     loop-again-2
-    mul-put
-    shared-slice-read-put
-    put-requires
+    add-has-bit
+    shared-slice-read-has-bit
+    has-bit-requires
     add-u-3
     loop-less-3
     loop-again-3
+    mul-put
+    shared-slice-read-put
+    put-requires
+    add-u-4
+    loop-less-4
+    loop-again-4
     same-length
     returns)
