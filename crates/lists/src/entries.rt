@@ -2,16 +2,17 @@
 
 use relations::blocks::has_bit;
 use relations::blocks::labels_in;
+use relations::blocks::lacks;
 ghost use mathlib.Core.Path.{_≡_};
 ghost use mathlib.Core.List.{List, [], _∷_, _++_};
-ghost use mathlib.Core.Bool.{Bool, true, cond, not, _&&_};
+ghost use mathlib.Core.Bool.{Bool, cond, not, _&&_};
 ghost use Prim.Native.Nat.{ℕ, _+_, _*_, _-_, _≤_, _<_};
 ghost use lib.Dec.{eqb};
 ghost use lib.ListN.{length, getD};
 ghost use Rattle.rules.specs.Finite.{countBelow};
 ghost use Rattle.rules.specs.Accept.{difference};
 ghost use Rattle.relations.specs.Relations.{bitAt, Frame, Slot};
-ghost use Rattle.lists.specs.Entries.{Went, Firsts, Emitting, isHit, Misses, entriesRow, entriesRows};
+ghost use Rattle.lists.specs.Entries.{Went, Firsts, Emitting, isHit, entriesRow, entriesRows};
 
 // How far the entries have come: how many there are, and the first number at which they differ from the stored list.
 pub struct Progress {
@@ -106,21 +107,56 @@ fn count_row(area: &[u8], from: usize, firsts: usize, l: usize, n: usize) -> usi
     some as usize
 }
 
-// Sixteen positions from u on lie in a row of n, and none of them is a first one that has bit l.
-fn misses(area: &[u8], from: usize, firsts: usize, l: usize, u: usize, n: usize) -> bool
-    requires { ⌜ (l < 8) × (u ≤ n) × (n ≤ 128) × (from + (n - u) ≤ length (now area)) × (firsts + (n - u) ≤ length (now area)) ⌝ }
-    ensures { λ r. ⌜ (r ≡ true → Misses (now (area .entry)) from firsts l u n) ⌝ }
+// Where the sixteen places from u on end in a row of n.
+fn end_of(u: usize, n: usize) -> usize
+    requires { ⌜ (u < n) × (n ≤ 128) ⌝ }
+    ensures { λ r. ⌜ (u < r) × (r ≤ n) ⌝ }
 {
-    if u % 16 != 0 {
-        return false;
-    }
     if n < u + 16 {
-        return false;
+        return n;
     }
-    count_row(area, from, firsts, l, 16) == 0
+    u + 16
 }
 
-// The entries of row v of the relation that bit l of the block at `from` holds, one by one.
+// The entries of the places from `start` up to `end` in row v of the relation that bit l of the block at `from` holds, behind those of the places before.
+fn put_places(
+    table: &[u32],
+    n: usize,
+    v: usize,
+    start: usize,
+    end: usize,
+    code: u32,
+    from: usize,
+    l: usize,
+    area: &[u8],
+    stored: &[u32],
+    out: &mut [u32],
+    past: Progress,
+) -> Progress
+    requires { ⌜ (v < n) × (start ≤ end) × (end ≤ n) × (Emitting (now table) n l from (past .count) (end - start) (now area)) ⌝ }
+    ensures { λ r. ⌜ (r .count ≤ past .count + (end - start)) × ((J : ℕ → ℕ → Bool) (at met : ℕ) (old : List ℕ) → Slot n from l (now (area .entry)) J → Firsts n (now (table .entry)) (now (area .entry)) → Went at met (past .count) (past .met) (entriesRow n (now (table .entry)) J code v start) (now (stored .entry)) old (now (out .entry)) → Went at met (r .count) (r .met) (entriesRow n (now (table .entry)) J code v end) (now (stored .entry)) old (now (out .exit))) ⌝ }
+{
+    let row = v * n;
+    let firsts = 8 * (n * n);
+    let mut done = past;
+    let mut u = start;
+    while u < end {
+        let p = row + u;
+        if area[firsts + p] == 0 {
+            u += 1;
+            continue;
+        }
+        if !has_bit(area[from + p], l) {
+            u += 1;
+            continue;
+        }
+        done = put(stored, out, done, code, table[p]);
+        u += 1;
+    }
+    done
+}
+
+// The entries of row v of the relation that bit l of the block at `from` holds. Sixteen places without that bit are passed over at once.
 fn put_row(
     table: &[u32],
     n: usize,
@@ -137,25 +173,16 @@ fn put_row(
     ensures { λ r. ⌜ (r .count ≤ past .count + n) × ((J : ℕ → ℕ → Bool) → Slot n from l (now (area .entry)) J → Firsts n (now (table .entry)) (now (area .entry)) → Went (past .count) (past .met) (r .count) (r .met) (entriesRow n (now (table .entry)) J code v n) (now (stored .entry)) (now (out .entry)) (now (out .exit))) ⌝ }
 {
     let row = v * n;
-    let firsts = 8 * (n * n);
     let mut done = past;
     let mut u: usize = 0;
     while u < n {
-        let p = row + u;
-        if misses(area, from + p, firsts + p, l, u, n) {
+        if lacks(area, from + (row + u), l, u, n) {
             u += 16;
             continue;
         }
-        if area[firsts + p] == 0 {
-            u += 1;
-            continue;
-        }
-        if !has_bit(area[from + p], l) {
-            u += 1;
-            continue;
-        }
-        done = put(stored, out, done, code, table[p]);
-        u += 1;
+        let end = end_of(u, n);
+        done = put_places(table, n, v, u, end, code, from, l, area, stored, out, done);
+        u = end;
     }
     done
 }

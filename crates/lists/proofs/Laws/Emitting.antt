@@ -19,7 +19,7 @@ use Rattle.rules.proofs.Laws.Loops.{first-found}
 use Rattle.rules.proofs.Laws.Places.{place-lt, place-row, place-column}
 use Rattle.sorting.proofs.Laws.Numbers.{max-none, max-step, max-all, max-mono}
 use Rattle.sorting.specs.Sort.{Contiguous}
-use Rattle.relations.specs.Relations.{bitAt, Slot, Kept}
+use Rattle.relations.specs.Relations.{bitAt, Lacks, Slot, Kept}
 use Rattle.relations.proofs.Laws.Blocks.{digit}
 use Rattle.lists.specs.Entries.{isFirst, firstRow, entriesRow, entriesRows, Firsts}
 
@@ -54,7 +54,7 @@ module _ (n : ℕ) (t : List ℕ) (J : ℕ → ℕ → Bool) (code v : ℕ) wher
   unfolding entriesRow
   step u b e = rw (add-one u) (rw e)
 
-  pub row-miss : (u : ℕ) → (isFirst t (v * n + u) && J v u) ≡ false → entriesRow n t J code v u ≡ entriesRow n t J code v (u + 1)
+  row-miss : (u : ℕ) → (isFirst t (v * n + u) && J v u) ≡ false → entriesRow n t J code v u ≡ entriesRow n t J code v (u + 1)
   row-miss u e = sym (step u false e ∙ append-nil (entriesRow n t J code v u))
 
   module _ (w : List ℕ) (firsts : Firsts n t w) (u : ℕ) (hv : v < n) (hu : u < n) where
@@ -70,6 +70,21 @@ module _ (n : ℕ) (t : List ℕ) (J : ℕ → ℕ → Bool) (code v : ℕ) wher
       row-with d e =
           sym (step u true
           (rw (marked (isFirst t (v * n + u)) (λ z. d (firsts .mark (v * n + u) (place-lt n v u hv hu) ∙ z)), sym (slot .cell v u hv hu) ∙ e)))
+
+  -- sixteen places without the bit
+  past-bits : (w : List ℕ) (from l : ℕ) → Slot n from l w J → v < n → (u k : ℕ) → u + k ≤ n → ((j : ℕ) → j < k → bitAt l (getD w (from + (v * n + u) + j) 0) ≡ false)
+      → entriesRow n t J code v u ≡ entriesRow n t J code v (u + k)
+  past-bits w from l slot hv u zero h none = let e : u ≡ u + 0 = omega arith in ap (λ (x : ℕ). entriesRow n t J code v x) e
+  past-bits w from l slot hv u (suc k) h none =
+      let e : u + k + 1 ≡ u + suc k = omega arith in
+      let a : from + (v * n + (u + k)) ≡ from + (v * n + u) + k = omega arith in
+      let z : J v (u + k) ≡ false = sym (slot .cell v (u + k) hv (omega arith)) ∙ ap (λ (x : ℕ). bitAt l (getD w x 0)) a ∙ none k (omega arith) in
+      past-bits w from l slot hv u k (omega arith) (λ j m. none j (omega arith))
+      ∙ row-miss (u + k) (ap (λ (x : Bool). isFirst t (v * n + (u + k)) && x) z ∙ and-false (isFirst t (v * n + (u + k))))
+      ∙ ap (λ (x : ℕ). entriesRow n t J code v x) e
+
+  pub row-past : (w : List ℕ) (from l u : ℕ) → Slot n from l w J → v < n → Lacks w (from + (v * n + u)) l u n → entriesRow n t J code v u ≡ entriesRow n t J code v (u + 16)
+  row-past w from l u slot hv b = past-bits w from l slot hv u 16 (b .inside) (b .none)
 
   -- a row without the relation has no entries
   empty-row : (k : ℕ) → ((u : ℕ) → u < k → J v u ≡ false) → entriesRow n t J code v k ≡ []

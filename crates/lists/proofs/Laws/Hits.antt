@@ -1,6 +1,6 @@
 -- Counting the entries of a row without making them.
 use Prim.Native.Nat.{ℕ, zero, suc, _+_, _*_, _/_, _%_, _^_, _≤_, _<_}
-use mathlib.Core.Path.{_≡_, refl, sym, ap, ap₂, _∙_}
+use mathlib.Core.Path.{_≡_, refl, ap, ap₂, _∙_}
 use mathlib.Core.Logic.{⊎-elim}
 use mathlib.Core.List.{List, [], _∷_, _++_}
 use mathlib.Core.Bool.{Bool, true, false, cond, not, _&&_}
@@ -12,13 +12,11 @@ use lib.Dec.{eqb}
 use lib.ListN.{length, getD, length-append}
 use Rattle.rules.specs.Finite.{countBelow}
 use Rattle.rules.proofs.Laws.Tests.{either}
-use Rattle.rules.proofs.Laws.Finite.{below-cases}
 use Rattle.rules.proofs.Laws.Places.{place-lt}
 use Rattle.relations.specs.Relations.{bitAt, Slot}
-use Rattle.lists.specs.Entries.{Went, Firsts, isFirst, isHit, Misses, entriesRow}
+use Rattle.lists.specs.Entries.{Went, Firsts, isFirst, isHit, entriesRow}
 use Rattle.sorting.proofs.Laws.Difference.{difference-is}
 use Rattle.lists.proofs.Laws.Went.{went-as, went-none}
-use Rattle.lists.proofs.Laws.Emitting.{row-miss}
 
 -- one position
 pub hit-none : (first l x : ℕ) → first ≡ 0 → 0 ≡ cond {A = ℕ} (not (eqb first 0) && bitAt l x) 1 0
@@ -51,20 +49,6 @@ pub count-le : (n : ℕ) (f : ℕ → Bool) → countBelow n f ≤ n
 unfolding countBelow
 count-le zero f = omega arith
 count-le (suc n) f = omega (arith, count-le n f, one-le (f n))
-
--- where none is counted there is none
-pub count-zero : (n : ℕ) (f : ℕ → Bool) → countBelow n f ≡ 0 → (j : ℕ) → j < n → f j ≡ false
-unfolding countBelow
-count-zero zero f e j h = absurd (omega arith)
-count-zero (suc n) f e j h =
-    ⊎-elim
-    (λ (q : j ≡ n). rw q (off (f n) (omega arith)))
-    (λ (l : j < n). count-zero n f (omega arith) j l)
-    (below-cases h)
-  where
-    off : (b : Bool) → cond {A = ℕ} b 1 0 ≡ 0 → b ≡ false
-    off true z = absurd (omega arith)
-    off false z = refl
 
 -- the hits of a row are its entries
 told : (b : Bool) → not (eqb (cond {A = ℕ} b 1 0) 0) ≡ b
@@ -125,23 +109,3 @@ module _ (n : ℕ) (t : List ℕ) (J : ℕ → ℕ → Bool) (code v from l : �
       (λ (y : eqb some 0 ≡ true). row-missed m k s out e (eqb-true some 0 y))
       (λ (y : eqb some 0 ≡ false). row-some m k s out e (eqb-false some 0 y) z)
       (either (eqb some 0))
-
-  shift : (u k : ℕ) → isHit w (from + (v * n + u)) (8 * (n * n) + (v * n + u)) l k ≡ hits (u + k)
-  unfolding isHit
-  shift u k =
-      let a : 8 * (n * n) + (v * n + u) + k ≡ 8 * (n * n) + v * n + (u + k) = omega arith in
-      let b : from + (v * n + u) + k ≡ from + v * n + (u + k) = omega arith in
-      rw (a, b)
-
-  -- sixteen places without a hit
-  past-misses : (u k : ℕ) → u + k ≤ n → ((j : ℕ) → j < k → isHit w (from + (v * n + u)) (8 * (n * n) + (v * n + u)) l j ≡ false)
-      → entriesRow n t J code v u ≡ entriesRow n t J code v (u + k)
-  past-misses u zero h none = let e : u ≡ u + 0 = omega arith in ap (λ (x : ℕ). entriesRow n t J code v x) e
-  past-misses u (suc k) h none =
-      let e : u + k + 1 ≡ u + suc k = omega arith in
-      past-misses u k (omega arith) (λ j l. none j (omega arith))
-      ∙ row-miss n t J code v (u + k) (sym (hit-is (u + k) (omega arith)) ∙ sym (shift u k) ∙ none k (omega arith))
-      ∙ ap (λ (x : ℕ). entriesRow n t J code v x) e
-
-  pub row-misses : (u : ℕ) → Misses w (from + (v * n + u)) (8 * (n * n) + (v * n + u)) l u n → entriesRow n t J code v u ≡ entriesRow n t J code v (u + 16)
-  row-misses u m = past-misses u 16 (m .inside) (m .none)
