@@ -4,6 +4,7 @@ pub mod Went
 pub mod Emitting
 pub mod Hits
 pub mod Sequences
+pub mod Bounds
 pub mod Walking
 pub mod Leaves
 pub mod Lengths

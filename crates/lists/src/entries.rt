@@ -2,10 +2,11 @@
 
 use relations::blocks::has_bit;
 use relations::blocks::labels_in;
+use relations::blocks::lacks;
 ghost use mathlib.Core.Path.{_≡_};
 ghost use mathlib.Core.List.{List, [], _∷_, _++_};
 ghost use mathlib.Core.Bool.{Bool, cond, not, _&&_};
-ghost use Prim.Native.Nat.{ℕ, _+_, _*_, _≤_, _<_};
+ghost use Prim.Native.Nat.{ℕ, _+_, _*_, _-_, _≤_, _<_};
 ghost use lib.Dec.{eqb};
 ghost use lib.ListN.{length, getD};
 ghost use Rattle.rules.specs.Finite.{countBelow};
@@ -106,7 +107,56 @@ fn count_row(area: &[u8], from: usize, firsts: usize, l: usize, n: usize) -> usi
     some as usize
 }
 
-// The entries of row v of the relation that bit l of the block at `from` holds, one by one.
+// Where the sixteen places from u on end in a row of n.
+fn end_of(u: usize, n: usize) -> usize
+    requires { ⌜ (u < n) × (n ≤ 128) ⌝ }
+    ensures { λ r. ⌜ (u < r) × (r ≤ n) ⌝ }
+{
+    if n < u + 16 {
+        return n;
+    }
+    u + 16
+}
+
+// The entries of the places from `start` up to `end` in row v of the relation that bit l of the block at `from` holds, behind those of the places before.
+fn put_places(
+    table: &[u32],
+    n: usize,
+    v: usize,
+    start: usize,
+    end: usize,
+    code: u32,
+    from: usize,
+    l: usize,
+    area: &[u8],
+    stored: &[u32],
+    out: &mut [u32],
+    past: Progress,
+) -> Progress
+    requires { ⌜ (v < n) × (start ≤ end) × (end ≤ n) × (Emitting (now table) n l from (past .count) (end - start) (now area)) ⌝ }
+    ensures { λ r. ⌜ (r .count ≤ past .count + (end - start)) × ((J : ℕ → ℕ → Bool) (at met : ℕ) (old : List ℕ) → Slot n from l (now (area .entry)) J → Firsts n (now (table .entry)) (now (area .entry)) → Went at met (past .count) (past .met) (entriesRow n (now (table .entry)) J code v start) (now (stored .entry)) old (now (out .entry)) → Went at met (r .count) (r .met) (entriesRow n (now (table .entry)) J code v end) (now (stored .entry)) old (now (out .exit))) ⌝ }
+{
+    let row = v * n;
+    let firsts = 8 * (n * n);
+    let mut done = past;
+    let mut u = start;
+    while u < end {
+        let p = row + u;
+        if area[firsts + p] == 0 {
+            u += 1;
+            continue;
+        }
+        if !has_bit(area[from + p], l) {
+            u += 1;
+            continue;
+        }
+        done = put(stored, out, done, code, table[p]);
+        u += 1;
+    }
+    done
+}
+
+// The entries of row v of the relation that bit l of the block at `from` holds. Sixteen places without that bit are passed over at once.
 fn put_row(
     table: &[u32],
     n: usize,
@@ -123,21 +173,16 @@ fn put_row(
     ensures { λ r. ⌜ (r .count ≤ past .count + n) × ((J : ℕ → ℕ → Bool) → Slot n from l (now (area .entry)) J → Firsts n (now (table .entry)) (now (area .entry)) → Went (past .count) (past .met) (r .count) (r .met) (entriesRow n (now (table .entry)) J code v n) (now (stored .entry)) (now (out .entry)) (now (out .exit))) ⌝ }
 {
     let row = v * n;
-    let firsts = 8 * (n * n);
     let mut done = past;
     let mut u: usize = 0;
     while u < n {
-        let p = row + u;
-        if area[firsts + p] == 0 {
-            u += 1;
+        if lacks(area, from + (row + u), l, u, n) {
+            u += 16;
             continue;
         }
-        if !has_bit(area[from + p], l) {
-            u += 1;
-            continue;
-        }
-        done = put(stored, out, done, code, table[p]);
-        u += 1;
+        let end = end_of(u, n);
+        done = put_places(table, n, v, u, end, code, from, l, area, stored, out, done);
+        u = end;
     }
     done
 }
@@ -158,18 +203,15 @@ fn emit_row(
     requires { ⌜ (v < n) × (Emitting (now table) n l from (past .count) n (now area)) ⌝ }
     ensures { λ r. ⌜ (r .count ≤ past .count + n) × ((J : ℕ → ℕ → Bool) → Slot n from l (now (area .entry)) J → Firsts n (now (table .entry)) (now (area .entry)) → Went (past .count) (past .met) (r .count) (r .met) (entriesRow n (now (table .entry)) J code v n) (now (stored .entry)) (now (out .entry)) (now (out .exit))) ⌝ }
 {
+    if stored.len() + out.len() != 0 {
+        return put_row(table, n, v, code, from, l, area, stored, out, past);
+    }
     let row = v * n;
     let some = count_row(area, from + row, 8 * (n * n) + row, l, n);
-    if some == 0 {
-        return past;
+    Progress {
+        count: past.count + some,
+        met: past.met,
     }
-    if stored.len() + out.len() == 0 {
-        return Progress {
-            count: past.count + some,
-            met: past.met,
-        };
-    }
-    put_row(table, n, v, code, from, l, area, stored, out, past)
 }
 
 // The entries of the relation that bit l of the block at `from` holds. Rows without that bit are passed over.

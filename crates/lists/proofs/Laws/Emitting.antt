@@ -14,13 +14,14 @@ use Rattle.rules.specs.Graph.{Graph}
 use Rattle.rules.specs.Levels.{maxOf, firstOf}
 use Rattle.rules.specs.Lists.{joins, joinsClass, codeFrom, entriesFor}
 use Rattle.rules.proofs.Laws.Tests.{either}
-use Rattle.rules.proofs.Laws.Finite.{none-any}
+use Rattle.rules.proofs.Laws.Finite.{any-here, none-any}
 use Rattle.rules.proofs.Laws.Loops.{first-found}
 use Rattle.rules.proofs.Laws.Places.{place-lt, place-row, place-column}
 use Rattle.sorting.proofs.Laws.Numbers.{max-none, max-step, max-all, max-mono}
 use Rattle.sorting.specs.Sort.{Contiguous}
-use Rattle.relations.specs.Relations.{bitAt, Slot}
-use Rattle.lists.specs.Entries.{isFirst, entriesRow, entriesRows, Firsts}
+use Rattle.relations.specs.Relations.{bitAt, Lacks, Slot, Kept}
+use Rattle.relations.proofs.Laws.Blocks.{digit}
+use Rattle.lists.specs.Entries.{isFirst, firstRow, entriesRow, entriesRows, Firsts}
 
 -- ---- the marks of first positions
 pub first-yes : (t : List ℕ) (p : ℕ) → maxOf (take p t) < getD t p 0 → _≡_ {A = ℕ} 1 (cond (isFirst t p) 1 0)
@@ -70,6 +71,21 @@ module _ (n : ℕ) (t : List ℕ) (J : ℕ → ℕ → Bool) (code v : ℕ) wher
           sym (step u true
           (rw (marked (isFirst t (v * n + u)) (λ z. d (firsts .mark (v * n + u) (place-lt n v u hv hu) ∙ z)), sym (slot .cell v u hv hu) ∙ e)))
 
+  -- sixteen places without the bit
+  past-bits : (w : List ℕ) (from l : ℕ) → Slot n from l w J → v < n → (u k : ℕ) → u + k ≤ n → ((j : ℕ) → j < k → bitAt l (getD w (from + (v * n + u) + j) 0) ≡ false)
+      → entriesRow n t J code v u ≡ entriesRow n t J code v (u + k)
+  past-bits w from l slot hv u zero h none = let e : u ≡ u + 0 = omega arith in ap (λ (x : ℕ). entriesRow n t J code v x) e
+  past-bits w from l slot hv u (suc k) h none =
+      let e : u + k + 1 ≡ u + suc k = omega arith in
+      let a : from + (v * n + (u + k)) ≡ from + (v * n + u) + k = omega arith in
+      let z : J v (u + k) ≡ false = sym (slot .cell v (u + k) hv (omega arith)) ∙ ap (λ (x : ℕ). bitAt l (getD w x 0)) a ∙ none k (omega arith) in
+      past-bits w from l slot hv u k (omega arith) (λ j m. none j (omega arith))
+      ∙ row-miss (u + k) (ap (λ (x : Bool). isFirst t (v * n + (u + k)) && x) z ∙ and-false (isFirst t (v * n + (u + k))))
+      ∙ ap (λ (x : ℕ). entriesRow n t J code v x) e
+
+  pub row-past : (w : List ℕ) (from l u : ℕ) → Slot n from l w J → v < n → Lacks w (from + (v * n + u)) l u n → entriesRow n t J code v u ≡ entriesRow n t J code v (u + 16)
+  row-past w from l u slot hv b = past-bits w from l slot hv u 16 (b .inside) (b .none)
+
   -- a row without the relation has no entries
   empty-row : (k : ℕ) → ((u : ℕ) → u < k → J v u ≡ false) → entriesRow n t J code v k ≡ []
   unfolding entriesRow
@@ -86,6 +102,41 @@ module _ (n : ℕ) (t : List ℕ) (J : ℕ → ℕ → Bool) (code v : ℕ) wher
 pub rows-none : (n : ℕ) (t : List ℕ) (J : ℕ → ℕ → Bool) (code : ℕ) → [] ≡ entriesRows n t J code 0
 unfolding entriesRows
 rows-none n t J code = refl
+
+-- ---- only what the relation is at first positions counts
+gate : (a b d : Bool) → (a ≡ true → b ≡ d) → (a && b) ≡ (a && d)
+gate true b d h = h refl
+gate false b d h = refl
+
+module _ (n : ℕ) (t : List ℕ) (J S : ℕ → ℕ → Bool) (code : ℕ) where
+  row-same : (v k : ℕ) → ((u : ℕ) → u < k → isFirst t (v * n + u) ≡ true → J v u ≡ S v u) → entriesRow n t J code v k ≡ entriesRow n t S code v k
+  unfolding entriesRow
+  row-same v zero h = refl
+  row-same v (suc k) h = rw (row-same v k (λ u l. h u (omega arith)), gate (isFirst t (v * n + k)) (J v k) (S v k) (h k (omega arith)))
+
+  pub rows-same : (k : ℕ) → ((v u : ℕ) → v < k → u < n → isFirst t (v * n + u) ≡ true → J v u ≡ S v u) → entriesRows n t J code k ≡ entriesRows n t S code k
+  unfolding entriesRows
+  rows-same zero h = refl
+  rows-same (suc k) h = rw (rows-same k (λ v u l. h v u (omega arith)), row-same k n (λ u. h k u (omega arith)))
+
+pub rows-empty : (n : ℕ) (t : List ℕ) (code k : ℕ) → entriesRows n t (λ _ _. false) code k ≡ []
+unfolding entriesRows
+rows-empty n t code zero = refl
+rows-empty n t code (suc k) = rw (rows-empty n t code k) (empty-row n t (λ _ _. false) code k n (λ u l. refl))
+
+-- ---- the rows that have a first position
+pub first-row : (n : ℕ) (t : List ℕ) (v u : ℕ) → u < n → isFirst t (v * n + u) ≡ true → firstRow n t v ≡ true
+unfolding firstRow
+first-row n t v u hu e = any-here n (λ x. isFirst t (v * n + x)) u hu e
+
+pub rows-marked : (n : ℕ) (t w : List ℕ) → Firsts n t w → Kept n (firstRow n t) w
+unfolding firstRow
+rows-marked n t w f = record {
+  row = λ v hv none. none-any n (λ u. isFirst t (v * n + u))
+      (λ u hu.
+      let e : 8 * (n * n) + v * n + u ≡ 8 * (n * n) + (v * n + u) = omega arith in
+      sym (digit (isFirst t (v * n + u))) ∙ ap (λ (x : ℕ). bitAt 0 x) (sym (f .mark (v * n + u) (place-lt n v u hv hu))) ∙ rw e at (none u hu));
+}
 
 -- ---- position order is class order
 module _ (t : List ℕ) (whole : Contiguous t) (p : ℕ) (hp : p < length t) where

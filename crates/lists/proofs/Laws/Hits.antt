@@ -1,16 +1,17 @@
 -- Counting the entries of a row without making them.
 use Prim.Native.Nat.{ℕ, zero, suc, _+_, _*_, _/_, _%_, _^_, _≤_, _<_}
-use mathlib.Core.Path.{_≡_, refl, sym, ap, ap₂, _∙_}
+use mathlib.Core.Path.{_≡_, refl, ap, ap₂, _∙_}
+use mathlib.Core.Logic.{⊎-elim}
 use mathlib.Core.List.{List, [], _∷_, _++_}
 use mathlib.Core.Bool.{Bool, true, false, cond, not, _&&_}
 use native.Mathlib.Nat.{mod-lt}
 use native.Mathlib.Numerals.{add-one}
 use native.Mathlib.Omega.{arith}
-use borrow.Author.Tests.{eq-eqb, ne-eqb}
+use borrow.Author.Tests.{eq-eqb, ne-eqb, eqb-true, eqb-false}
 use lib.Dec.{eqb}
 use lib.ListN.{length, getD, length-append}
 use Rattle.rules.specs.Finite.{countBelow}
-use Rattle.rules.specs.Accept.{difference}
+use Rattle.rules.proofs.Laws.Tests.{either}
 use Rattle.rules.proofs.Laws.Places.{place-lt}
 use Rattle.relations.specs.Relations.{bitAt, Slot}
 use Rattle.lists.specs.Entries.{Went, Firsts, isFirst, isHit, entriesRow}
@@ -85,16 +86,26 @@ module _ (n : ℕ) (t : List ℕ) (J : ℕ → ℕ → Bool) (code v from l : �
   no-length [] e = refl
   no-length (x ∷ xs) e = absurd (omega arith)
 
-  pub row-missed : (m k : ℕ) {some : ℕ} (s out : List ℕ) → some ≡ countBelow n hits → some ≡ 0 → Went k m k m (entriesRow n t J code v n) s out out
-  row-missed m k s out e z =
-      went-as k m k m [] (entriesRow n t J code v n) s out out (no-length (entriesRow n t J code v n) (row-length n (omega arith) ∙ omega arith)) (went-none k m s out)
+  row-missed : (m k : ℕ) {some : ℕ} (s out : List ℕ) → some ≡ countBelow n hits → some ≡ 0 → Went k m (k + some) m (entriesRow n t J code v n) s out out
+  row-missed m k {some} s out e z =
+      let q : k + some ≡ k = omega arith in
+      rw q (went-as k m k m [] (entriesRow n t J code v n) s out out (no-length (entriesRow n t J code v n) (row-length n (omega arith) ∙ omega arith)) (went-none k m s out))
 
-  pub row-counted : (m k : ℕ) {some : ℕ} (s out : List ℕ) → some ≡ countBelow n hits → (some ≡ 0 → ⊥) → length s + length out ≡ 0
+  row-some : (m k : ℕ) {some : ℕ} (s out : List ℕ) → some ≡ countBelow n hits → (some ≡ 0 → ⊥) → length s + length out ≡ 0
       → Went k m (k + some) m (entriesRow n t J code v n) s out out
-  row-counted m k {some} s out e d z =
+  row-some m k {some} s out e d z =
       record {
         count = omega (arith, row-length n (omega arith), e);
         size = refl;
         text = λ h. absurd (d (omega arith));
         meets = λ before len q. omega (arith, q, difference-is before s .right, difference-is (before ++ entriesRow n t J code v n) s .right);
       }
+
+  -- with nothing to write to and nothing to compare with, counting is all
+  pub row-counted : (m k : ℕ) {some : ℕ} (s out : List ℕ) → some ≡ countBelow n hits → length s + length out ≡ 0
+      → Went k m (k + some) m (entriesRow n t J code v n) s out out
+  row-counted m k {some} s out e z =
+      ⊎-elim
+      (λ (y : eqb some 0 ≡ true). row-missed m k s out e (eqb-true some 0 y))
+      (λ (y : eqb some 0 ≡ false). row-some m k s out e (eqb-false some 0 y) z)
+      (either (eqb some 0))

@@ -1,9 +1,8 @@
--- The invariant: the entries of the first u places have gone by. A later position and a missing bit add none.
+-- The invariant: the entries of the first u places have gone by. Sixteen places without the bit have none.
 use Prim.Native.Nat.{ℕ, _+_, _*_, _-_, _≤_, _<_}
-use mathlib.Core.Path.{_≡_, refl, sym, ap, _∙_}
+use mathlib.Core.Path.{_≡_, refl, ap, _∙_}
 use mathlib.Core.Bool.{Bool}
 use native.Mathlib.Omega.{arith}
-use borrow.Author.Tests.{not-true, not-false}
 use lib.ListN.{length}
 use Rattle.relations.specs.Relations.{Slot}
 use Rattle.rules.proofs.Laws.Places.{place-lt, row-fits, square-le}
@@ -14,10 +13,12 @@ use Rattle.lists.proofs.entries.put_row.Statement.{statement}
 use Rattle.lists.proofs.entries.put_row.Tie as tie
 
 abbrev Inv-loop : tie.InvT-loop
-Inv-loop table n v code from l area stored out₀ row firsts done₀ u₀ out done u = (u ≤ n) × (done .count ≤ done₀ .count + u) × (length out ≡ length out₀) × ((J : ℕ → ℕ → Bool) → Slot n from l area J → Firsts n table area → Went (done₀ .count) (done₀ .met) (done .count) (done .met) (entriesRow n table J code v u) stored out₀ out)
+Inv-loop table n v code from l area stored out₀ row done₀ u₀ out done u =
+    (u ≤ n) × (done .count ≤ done₀ .count + u) × (length out ≡ length out₀)
+    × ((J : ℕ → ℕ → Bool) → Slot n from l area J → Firsts n table area → Went (done₀ .count) (done₀ .met) (done .count) (done .met) (entriesRow n table J code v u) stored out₀ out)
 
 abbrev μ-loop : tie.MeasureT-loop
-μ-loop table n v code from l area stored out₀ row firsts done₀ u₀ out done u = n - u
+μ-loop table n v code from l area stored out₀ row done₀ u₀ out done u = n - u
 
 cell : (c : tie.In-loop Inv-loop μ-loop) → c .before .before .before .before .before .before .args .v * c .before .before .before .before .before .before .args .n + c .before .loop .u < c .before .before .before .before .before .before .args .n * c .before .before .before .before .before .before .args .n
 cell c = place-lt (c .before .before .before .before .before .before .args .n) _ _ (c .before .before .before .before .before .before .pre .0) (c .loop-test .taken)
@@ -25,103 +26,81 @@ cell c = place-lt (c .before .before .before .before .before .before .args .n) _
 mul-row : tie.Need-mul-row Inv-loop μ-loop
 mul-row c = omega (arith, row-fits (c .before .before .before .before .args .n) (c .before .before .before .before .pre .0), square-le (c .before .before .before .before .pre .1 .small))
 
-mul-firsts : tie.Need-mul-firsts Inv-loop μ-loop
-mul-firsts c = omega (arith, square-le (c .before .before .before .before .pre .1 .small))
-
-mul-firsts-2 : tie.Need-mul-firsts-2 Inv-loop μ-loop
-mul-firsts-2 c = omega (arith, square-le (c .before .before .before .before .pre .1 .small))
-
 loop-holds : tie.Need-loop-holds Inv-loop μ-loop
 loop-holds c = (omega arith, omega arith, refl, λ J s f. went.went-as _ _ _ _ _ _ _ _ _ (emitting.row-none _ _ J _ _) (went.went-none _ _ _ _))
 
-add-p : tie.Need-add-p Inv-loop μ-loop
-add-p c = omega (arith, cell (c), square-le (c .before .before .before .before .before .before .pre .1 .small))
+add-lacks : tie.Need-add-lacks Inv-loop μ-loop
+add-lacks c = omega (arith, cell c, square-le (c .before .before .before .before .before .before .pre .1 .small))
 
-add-if1 : tie.Need-add-if1 Inv-loop μ-loop
-add-if1 c = omega (arith, cell (c), square-le (c .before .before .before .before .before .before .pre .1 .small))
+add-lacks-2 : tie.Need-add-lacks-2 Inv-loop μ-loop
+add-lacks-2 c = omega (arith, cell c, c .before .before .before .before .before .before .pre .1 .room)
 
-shared-slice-read-if1 : tie.Need-shared-slice-read-if1 Inv-loop μ-loop
-shared-slice-read-if1 c = omega (arith, cell (c .before), c .before .before .before .before .before .before .before .pre .1 .area)
+lacks-requires : tie.Need-lacks-requires Inv-loop μ-loop
+lacks-requires c κs =
+    let a = c .before .before .before .before .before .before .pre .1 in
+    (a .label, c .before .loop .inv .0, a .small, omega (arith, c .before .loop .inv .0, row-fits (c .before .before .before .before .before .before .args .n) (c .before .before .before .before .before .before .pre .0), a .room))
 
 add-u : tie.Need-add-u Inv-loop μ-loop
-add-u c = omega arith
+add-u c = omega (arith, c .before .lacks .ensures (c .if1 .taken) .inside)
 
 loop-less : tie.Need-loop-less Inv-loop μ-loop
-loop-less c = omega arith
+loop-less c = omega (arith, c .before .lacks .ensures (c .if1 .taken) .inside)
 
 loop-again : tie.Need-loop-again Inv-loop μ-loop
-loop-again c = (
-  omega arith,
-  omega (arith, c .before .before .before .loop .inv .1),
-  c .before .before .before .loop .inv .2,
-  λ J s f.
-      went.went-as _ _ _ _ _ _ _ _ _
-      (emitting.row-later (c .before .before .before .before .before .before .before .before .args .n) (c .before .before .before .before .before .before .before .before .args .table .now) J (c .before .before .before .before .before .before .before .before .args .code) (c .before .before .before .before .before .before .before .before .args .v) (c .before .before .before .before .before .before .before .before .args .area .now) f (c .before .before .before .loop .u) (c .before .before .before .before .before .before .before .before .pre .0) (c .before .before .loop-test .taken) (c .if1 .taken))
-      (c .before .before .before .loop .inv .3 J s f),
-)
+loop-again c =
+    let b = c .before .lacks .ensures (c .if1 .taken) in (
+      b .inside,
+      omega (arith, c .before .before .before .loop .inv .1),
+      c .before .before .before .loop .inv .2,
+      λ J s f.
+          went.went-as _ _ _ _ _ _ _ _ _
+          (emitting.row-past (c .before .before .before .before .before .before .before .before .args .n) (c .before .before .before .before .before .before .before .before .args .table .now) J (c .before .before .before .before .before .before .before .before .args .code) (c .before .before .before .before .before .before .before .before .args .v) (c .before .before .before .before .before .before .before .before .args .area .now) (c .before .before .before .before .before .before .before .before .args .from) (c .before .before .before .before .before .before .before .before .args .l) (c .before .before .before .loop .u) s (c .before .before .before .before .before .before .before .before .pre .0) b)
+          (c .before .before .before .loop .inv .3 J s f),
+    )
 
-add-has-bit : tie.Need-add-has-bit Inv-loop μ-loop
-add-has-bit c = omega (arith, cell (c .before .before), c .before .before .before .before .before .before .before .before .pre .1 .room)
+end-of-requires : tie.Need-end-of-requires Inv-loop μ-loop
+end-of-requires c κs = (c .before .before .loop-test .taken, c .before .before .before .before .before .before .before .before .pre .1 .small)
 
-shared-slice-read-has-bit : tie.Need-shared-slice-read-has-bit Inv-loop μ-loop
-shared-slice-read-has-bit c = omega (arith, cell (c .before .before .before), c .before .before .before .before .before .before .before .before .before .pre .1 .room)
-
-has-bit-requires : tie.Need-has-bit-requires Inv-loop μ-loop
-has-bit-requires c κs = c .before .before .before .before .before .before .before .before .before .pre .1 .label
-
-add-u-2 : tie.Need-add-u-2 Inv-loop μ-loop
-add-u-2 c = omega arith
+put-places-requires : tie.Need-put-places-requires Inv-loop μ-loop
+put-places-requires c κs =
+    let a = c .before .before .before .before .before .before .before .before .before .before .pre in
+    let e = c .before .end-of .ensures in (
+      a .0,
+      omega (arith, e .0),
+      e .1,
+      record {
+        small = a .1 .small;
+        label = a .1 .label;
+        square = a .1 .square;
+        few = omega (arith, c .before .before .before .before .before .loop .inv .1, e .0, e .1, a .1 .few);
+        room = a .1 .room;
+        area = a .1 .area;
+      },
+    )
 
 loop-less-2 : tie.Need-loop-less-2 Inv-loop μ-loop
-loop-less-2 c = omega arith
+loop-less-2 c = omega (arith, c .before .before .before .before .end-of .ensures .0, c .before .before .before .before .end-of .ensures .1)
 
 loop-again-2 : tie.Need-loop-again-2 Inv-loop μ-loop
-loop-again-2 c = (
-  omega arith,
-  omega (arith, c .before .before .before .before .before .before .loop .inv .1),
-  c .before .before .before .before .before .before .loop .inv .2,
-  λ J s f.
-      went.went-as _ _ _ _ _ _ _ _ _
-      (emitting.row-without (c .before .before .before .before .before .before .before .before .before .before .before .args .n) (c .before .before .before .before .before .before .before .before .before .before .before .args .table .now) J (c .before .before .before .before .before .before .before .before .before .before .before .args .code) (c .before .before .before .before .before .before .before .before .before .before .before .args .v) (c .before .before .before .before .before .before .before .before .before .before .before .args .area .now) f (c .before .before .before .before .before .before .loop .u) (c .before .before .before .before .before .before .before .before .before .before .before .pre .0) (c .before .before .before .before .before .loop-test .taken) (c .before .before .before .before .before .before .before .before .before .before .before .args .from) (c .before .before .before .before .before .before .before .before .before .before .before .args .l) s
-      (sym (c .before .has-bit .ensures) ∙ not-true _ (c .if2 .taken)))
-      (c .before .before .before .before .before .before .loop .inv .3 J s f),
-)
-
-mul-put : tie.Need-mul-put Inv-loop μ-loop
-mul-put c = omega (arith, cell (c .before .before .before .before .before .before), square-le (c .before .before .before .before .before .before .before .before .before .before .before .before .pre .1 .small))
-
-shared-slice-read-put : tie.Need-shared-slice-read-put Inv-loop μ-loop
-shared-slice-read-put c = omega (arith, cell (c .before .before .before .before .before .before .before), c .before .before .before .before .before .before .before .before .before .before .before .before .before .pre .1 .square)
-
-put-requires : tie.Need-put-requires Inv-loop μ-loop
-put-requires c κs = omega (arith, c .before .before .before .before .before .before .before .before .loop .inv .1, c .before .before .before .before .before .before .before .before .before .before .before .before .before .pre .1 .few)
-
-add-u-3 : tie.Need-add-u-3 Inv-loop μ-loop
-add-u-3 c = omega arith
-
-loop-less-3 : tie.Need-loop-less-3 Inv-loop μ-loop
-loop-less-3 c = omega arith
-
-loop-again-3 : tie.Need-loop-again-3 Inv-loop μ-loop
-loop-again-3 c = (
-  omega arith,
-  omega (arith, c .before .before .before .before .before .before .before .before .before .before .before .loop .inv .1, c .before .before .put .ensures .0),
-  c .before .before .put .ensures .1 .size ∙ c .before .before .before .before .before .before .before .before .before .before .before .loop .inv .2,
-  λ J s f.
-      went.went-as _ _ _ _ _ _ _ _ _
-      (emitting.row-with (c .before .before .before .before .before .before .before .before .before .before .before .before .before .before .before .before .args .n) (c .before .before .before .before .before .before .before .before .before .before .before .before .before .before .before .before .args .table .now) J (c .before .before .before .before .before .before .before .before .before .before .before .before .before .before .before .before .args .code) (c .before .before .before .before .before .before .before .before .before .before .before .before .before .before .before .before .args .v) (c .before .before .before .before .before .before .before .before .before .before .before .before .before .before .before .before .args .area .now) f (c .before .before .before .before .before .before .before .before .before .before .before .loop .u) (c .before .before .before .before .before .before .before .before .before .before .before .before .before .before .before .before .pre .0) (c .before .before .before .before .before .before .before .before .before .before .loop-test .taken) (c .before .before .before .before .before .before .before .before .before .before .before .before .before .before .before .before .args .from) (c .before .before .before .before .before .before .before .before .before .before .before .before .before .before .before .before .args .l) s
-      (c .before .before .before .before .before .before .before .before .if1 .left) (sym (c .before .before .before .before .before .before .has-bit .ensures) ∙ not-false _ (c .before .before .before .before .before .if2 .left)))
-      (went.went-trans _ _ _ _ _ _ _ _ _ _ _ _ (c .before .before .before .before .before .before .before .before .before .before .before .loop .inv .3 J s f) (c .before .before .put .ensures .1)),
-)
+loop-again-2 c =
+    let l = c .before .before .before .before .before .before .before .before .loop in
+    let e = c .before .before .before .before .end-of .ensures in
+    let p = c .before .before .put-places in (
+      e .1,
+      omega (arith, l .inv .1, p .ensures .0, e .0, e .1),
+      p .kept .1 .1 .1 .1 .1 .1 .1 .1 .1 .1 .0 ∙ l .inv .2,
+      λ J s f. p .ensures .1 J _ _ _ s f (l .inv .3 J s f),
+    )
 
 same-length : tie.Need-same-length Inv-loop μ-loop
 same-length c = c .before .loop .inv .2
 
 returns : tie.Need-returns Inv-loop μ-loop
-returns c = let e : c .before .loop .u ≡ c .before .before .before .before .before .before .args .n = omega arith in (
-  omega (arith, c .before .loop .inv .1),
-  λ J s f. went.went-as _ _ _ _ _ _ _ _ _ (ap (λ (k : ℕ). entriesRow (c .before .before .before .before .before .before .args .n) (c .before .before .before .before .before .before .args .table .now) J (c .before .before .before .before .before .before .args .code) (c .before .before .before .before .before .before .args .v) k) e) (c .before .loop .inv .3 J s f),
-)
+returns c =
+    let e : c .before .loop .u ≡ c .before .before .before .before .before .before .args .n = omega arith in (
+      omega (arith, c .before .loop .inv .1),
+      λ J s f. went.went-as _ _ _ _ _ _ _ _ _ (ap (λ (k : ℕ). entriesRow (c .before .before .before .before .before .before .args .n) (c .before .before .before .before .before .before .args .table .now) J (c .before .before .before .before .before .before .args .code) (c .before .before .before .before .before .before .args .v) k) e) (c .before .loop .inv .3 J s f),
+    )
 
 pub put-row-spec : {M : Type 1} → statement M
 put-row-spec =
@@ -130,26 +109,16 @@ put-row-spec =
     Inv-loop
     μ-loop
     mul-row
-    mul-firsts
-    mul-firsts-2
     loop-holds
-    add-p
-    add-if1
-    shared-slice-read-if1
+    add-lacks
+    add-lacks-2
+    lacks-requires
     add-u
     loop-less
     loop-again
-    add-has-bit
-    shared-slice-read-has-bit
-    has-bit-requires
-    add-u-2
+    end-of-requires
+    put-places-requires
     loop-less-2
     loop-again-2
-    mul-put
-    shared-slice-read-put
-    put-requires
-    add-u-3
-    loop-less-3
-    loop-again-3
     same-length
     returns)

@@ -13,7 +13,7 @@ use Rattle.rules.specs.Levels.{maxOf}
 use Rattle.rules.specs.Graph.{graphOf}
 use Rattle.sorting.specs.Sort.{Contiguous}
 use Rattle.lists.proofs.Laws.Walking as walking
-use Rattle.lists.proofs.Laws.Leaves as leaving
+use Rattle.lists.proofs.Laws.Bounds as bounds
 use Rattle.lists.proofs.Laws.Lengths as listed
 use Rattle.lists.proofs.listing.lengths.Statement.{statement}
 use Rattle.lists.proofs.listing.lengths.Tie as tie
@@ -55,9 +55,9 @@ walk-requires c κs = record {
   small = c .before .before .before .before .before .before .before .before .before .before .before .before .before .before .before .before .before .pre .small;
   square = c .before .before .before .before .before .before .before .before .before .before .before .before .before .before .before .before .before .pre .square;
   deep = omega arith;
-  few = omega (arith, c .before .before .before .loop .inv .1, c .before .before .before .before .before .before .emit .ensures .0, square-le (c .before .before .before .before .before .before .before .before .before .before .before .before .before .before .before .before .before .pre .small), c .before .before .before .before .before .before .before .before .before .before .before .before .before .before .before .before .before .pre .short, leaving.weight-small (c .before .before .before .loop .j + 1) (omega (arith, c .before .before .before .before .before .before .before .before .before .before .before .before .before .before .before .before .before .pre .short)));
-  coded = leaving.codes-small (c .before .before .before .loop .j + 1) (omega (arith, c .before .before .before .before .before .before .before .before .before .before .before .before .before .before .before .before .before .pre .short));
-  room = omega (arith, leaving.blocks-small (c .before .before .before .loop .j + 1) (c .before .before .before .before .before .before .before .before .before .before .before .before .before .before .before .before .before .args .n * c .before .before .before .before .before .before .before .before .before .before .before .before .before .before .before .before .before .args .n) (omega (arith, c .before .before .before .before .before .before .before .before .before .before .before .before .before .before .before .before .before .pre .short)));
+  few = omega (arith, c .before .before .before .loop .inv .1, c .before .before .before .before .before .before .emit .ensures .0, square-le (c .before .before .before .before .before .before .before .before .before .before .before .before .before .before .before .before .before .pre .small), c .before .before .before .before .before .before .before .before .before .before .before .before .before .before .before .before .before .pre .short, bounds.weight-small (c .before .before .before .loop .j + 1) (omega (arith, c .before .before .before .before .before .before .before .before .before .before .before .before .before .before .before .before .before .pre .short)));
+  coded = bounds.codes-small (c .before .before .before .loop .j + 1) (omega (arith, c .before .before .before .before .before .before .before .before .before .before .before .before .before .before .before .before .before .pre .short));
+  room = omega (arith, bounds.blocks-small (c .before .before .before .loop .j + 1) (c .before .before .before .before .before .before .before .before .before .before .before .before .before .before .before .before .before .args .n * c .before .before .before .before .before .before .before .before .before .before .before .before .before .before .before .before .before .args .n) (omega (arith, c .before .before .before .before .before .before .before .before .before .before .before .before .before .before .before .before .before .pre .short)));
   area = omega (arith, c .before .before .before .before .before .before .before .before .before .before .before .before .before .before .before .before .before .pre .area, c .before .before .before .before .before .before .before .before .before .before .before .identity .ensures .0 .size, c .before .before .before .loop .inv .2 .size);
 }
 
@@ -70,14 +70,14 @@ loop-less c = omega arith
 loop-again : tie.Need-loop-again Inv-loop μ-loop
 loop-again c = (
   omega arith,
-  omega (arith, c .before .before .before .before .before .before .before .before .loop .inv .1, c .before .before .before .before .walk .ensures .0, c .before .before .before .before .before .before .before .before .before .before .before .before .before .before .before .before .before .before .before .before .before .before .pre .short, leaving.weight-small (c .before .before .before .before .before .before .before .before .loop .j + 1) (omega (arith, c .before .before .before .before .before .before .before .before .before .before .before .before .before .before .before .before .before .before .before .before .before .before .pre .short))),
+  omega (arith, c .before .before .before .before .before .before .before .before .loop .inv .1, c .before .before .before .before .walk .ensures .0, c .before .before .before .before .before .before .before .before .before .before .before .before .before .before .before .before .before .before .before .before .before .before .pre .short, bounds.weight-small (c .before .before .before .before .before .before .before .before .loop .j + 1) (omega (arith, c .before .before .before .before .before .before .before .before .before .before .before .before .before .before .before .before .before .before .before .before .before .before .pre .short))),
   areas.frame-trans _ _ _ _ _ (c .before .before .before .before .before .before .before .before .loop .inv .2) (areas.frame-wide _ _ _ _ _ _ (omega arith) (omega arith) (c .before .before .before .before .walk .ensures .1)),
   c .before .before .before .before .walk .kept .1 .1 .1 .1 .1 .1 .1 .1 .0 ∙ c .before .before .before .before .before .before .before .before .loop .inv .3,
   λ es h f m.
       let m′ = walking.marked-kept _ _ _ _ _ _ (omega arith) (c .before .before .before .before .before .before .before .before .loop .inv .2) m in
       went.went-as _ _ _ _ _ _ _ _ _ (listed.longer-more (graphOf (c .before .before .before .before .before .before .before .before .before .before .before .before .before .before .before .before .before .before .before .before .before .before .args .n) (c .before .before .before .before .before .before .before .before .before .before .before .before .before .before .before .before .before .before .before .before .before .before .args .labels) es) (c .before .before .before .before .before .before .before .before .before .before .before .before .before .before .before .before .before .before .before .before .before .before .args .table .now) _ (c .before .before .before .before .before .before .before .before .loop .j))
       (went.went-trans _ _ _ _ _ _ _ _ _ _ _ _ (c .before .before .before .before .before .before .before .before .loop .inv .4 es h f m)
-      (c .before .before .before .before .walk .ensures .2 es [] h (walking.firsts-kept _ _ _ _ _ _ (omega arith) (c .before .before .before .before .before .before .before .before .loop .inv .2) f) m′ listed.empty-code (walking.extended-none _ _ es _ m′))),
+      (c .before .before .before .before .walk .ensures .2 es [] h (walking.firsts-kept _ _ _ _ _ _ (omega arith) (c .before .before .before .before .before .before .before .before .loop .inv .2) f) m′ listed.empty-code (walking.extended-none _ _ es _ _ m′))),
 )
 
 same-length : tie.Need-same-length Inv-loop μ-loop
