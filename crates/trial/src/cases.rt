@@ -8,76 +8,28 @@ use crate::tables;
 use libc::STDOUT_FILENO;
 
 // The letters of the entries that take an edge table or return a part: D, P and L. Another names no entry.
-fn short_line(
-    letter: u8,
-    input: &mut [u8],
-    s: Source,
-    out: &mut [u8],
-    edges: &mut [u32],
-    starts: &mut [u32],
-    order: &mut [u32],
-    entries: &mut [u32],
-    tokens: &mut [u8],
-    answers: &mut [u32],
-    area: &mut [u8],
-) -> Source {
+fn short_line(letter: u8, input: &mut [u8], s: Source, out: &mut [u8]) -> Source {
     if letter == 68 {
-        return direct::direct_line(input, s, out, edges, tokens, answers, area);
+        return direct::direct_line(input, s, out);
     }
     if letter == 80 {
-        return parts::pairs_line(input, s, out, starts, order);
+        return parts::pairs_line(input, s, out);
     }
     if letter == 76 {
-        return parts::lookup_line(input, s, out, tokens, entries);
+        return parts::lookup_line(input, s, out);
     }
     source::unsound(s)
 }
 
-// A line behind its letter. The symbols of a lookup stand in the room for tokens, the table of a stored answer in that for order.
-fn any_line(
-    letter: u8,
-    input: &mut [u8],
-    s: Source,
-    out: &mut [u8],
-    edges: &mut [u32],
-    levels: &mut [u32],
-    starts: &mut [u32],
-    order: &mut [u32],
-    entries: &mut [u32],
-    tokens: &mut [u8],
-    answers: &mut [u32],
-    area: &mut [u8],
-) -> Source {
+// A line behind its letter. Each entry's line has lists of its own, which are zero before the case is read.
+fn any_line(letter: u8, input: &mut [u8], s: Source, out: &mut [u8]) -> Source {
     if is_tables(letter) {
-        return tables::tables_line(
-            letter,
-            input,
-            s,
-            out,
-            edges,
-            levels,
-            starts,
-            order,
-            entries,
-            area,
-        );
+        return tables::tables_line(letter, input, s, out);
     }
     if is_stored(letter) {
-        return stored::stored_line(letter, input, s, out, order, entries, tokens, answers, area);
+        return stored::stored_line(letter, input, s, out);
     }
-    short_line(
-        letter,
-        input,
-        s,
-        out,
-        edges,
-        starts,
-        order,
-        entries,
-        tokens,
-        answers,
-        area,
-    )
+    short_line(letter, input, s, out)
 }
 
 // B and C.
@@ -114,19 +66,7 @@ fn tell(source: Source) -> Line {
 }
 
 // Reads a line and prints the answer, unless the input is at its end.
-pub fn next_line(
-    input: &mut [u8],
-    s: Source,
-    out: &mut [u8],
-    edges: &mut [u32],
-    levels: &mut [u32],
-    starts: &mut [u32],
-    order: &mut [u32],
-    entries: &mut [u32],
-    tokens: &mut [u8],
-    answers: &mut [u32],
-    area: &mut [u8],
-) -> Line {
+pub fn next_line(input: &mut [u8], s: Source, out: &mut [u8]) -> Line {
     let seen = source::peek(input, s);
     let from = seen.source;
     if from.end <= from.at {
@@ -135,19 +75,6 @@ pub fn next_line(
             more: false,
         };
     }
-    let behind = any_line(
-        seen.byte,
-        input,
-        source::taken(from),
-        out,
-        edges,
-        levels,
-        starts,
-        order,
-        entries,
-        tokens,
-        answers,
-        area,
-    );
+    let behind = any_line(seen.byte, input, source::taken(from), out);
     tell(behind)
 }

@@ -87,22 +87,18 @@ fn answer_direct(
 }
 
 // A line behind its letter D.
-pub fn direct_line(
-    input: &mut [u8],
-    s: Source,
-    out: &mut [u8],
-    edges: &mut [u32],
-    tokens: &mut [u8],
-    answers: &mut [u32],
-    area: &mut [u8],
-) -> Source {
-    let case = read_direct(input, s, edges, tokens, answers, area);
+pub fn direct_line(input: &mut [u8], s: Source, out: &mut [u8]) -> Source {
+    let mut edges = [0u32; 12300];
+    let mut tokens = [0u8; 80];
+    let mut answers = [0u32; 16700];
+    let mut area = [0u8; 149785];
+    let case = read_direct(input, s, &mut edges, &mut tokens, &mut answers, &mut area);
     let asked = case.asked;
     let source = asked.source;
     let sound = source.sound;
     if !sound {
         return source;
     }
-    answer_direct(case, out, edges, tokens, answers, area);
+    answer_direct(case, out, &edges, &tokens, &mut answers, &mut area);
     source
 }

@@ -30,31 +30,11 @@ mod cases;
 fn main() {
     let mut input = [0u8; 65536];
     let mut output = [0u8; 65536];
-    let mut edges = [0u32; 12300];
-    let mut levels = [0u32; 66572];
-    let mut starts = [0u32; 16650];
-    let mut order = [0u32; 16650];
-    let mut entries = [0u32; 40000];
-    let mut tokens = [0u8; 80];
-    let mut answers = [0u32; 16700];
-    let mut area = [0u8; 149785];
     let mut source = source::start();
     let mut more = true;
     let mut turns = u64::MAX;
     while more && turns > 0 {
-        let line = cases::next_line(
-            &mut input,
-            source,
-            &mut output,
-            &mut edges,
-            &mut levels,
-            &mut starts,
-            &mut order,
-            &mut entries,
-            &mut tokens,
-            &mut answers,
-            &mut area,
-        );
+        let line = cases::next_line(&mut input, source, &mut output);
         source = line.source;
         more = line.more;
         turns -= 1;

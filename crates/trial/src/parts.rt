@@ -72,22 +72,18 @@ fn answer_pairs(c: u32, two: Two, out: &mut [u8], starts: &[u32], order: &[u32])
 }
 
 // A line behind its letter P.
-pub fn pairs_line(
-    input: &mut [u8],
-    s: Source,
-    out: &mut [u8],
-    starts: &mut [u32],
-    order: &mut [u32],
-) -> Source {
+pub fn pairs_line(input: &mut [u8], s: Source, out: &mut [u8]) -> Source {
+    let mut starts = [0u32; 16650];
+    let mut order = [0u32; 16650];
     let c = source::next_number(input, s);
     let behind_class = c.source;
-    let two = read_starts_order(input, behind_class, starts, order);
+    let two = read_starts_order(input, behind_class, &mut starts, &mut order);
     let source = two.source;
     let sound = source.sound;
     if !sound {
         return source;
     }
-    answer_pairs(c.value, two, out, starts, order);
+    answer_pairs(c.value, two, out, &starts, &order);
     source
 }
 
@@ -121,23 +117,19 @@ fn print_lookup(out: &mut [u8], report: Report, two: Two, symbols: &[u8], entrie
 }
 
 // A line behind its letter L.
-pub fn lookup_line(
-    input: &mut [u8],
-    s: Source,
-    out: &mut [u8],
-    symbols: &mut [u8],
-    entries: &mut [u32],
-) -> Source {
-    let two = read_symbols_entries(input, s, symbols, entries);
+pub fn lookup_line(input: &mut [u8], s: Source, out: &mut [u8]) -> Source {
+    let mut symbols = [0u8; 80];
+    let mut entries = [0u32; 40000];
+    let two = read_symbols_entries(input, s, &mut symbols, &mut entries);
     let source = two.source;
     let sound = source.sound;
     if !sound {
         return source;
     }
     let bounds = index::lookup_bounds(
-        fronts::bytes(symbols, two.first),
-        fronts::numbers(entries, two.second),
+        fronts::bytes(&symbols, two.first),
+        fronts::numbers(&entries, two.second),
     );
-    print_lookup(out, report_bounds(bounds), two, symbols, entries);
+    print_lookup(out, report_bounds(bounds), two, &symbols, &entries);
     source
 }

@@ -187,24 +187,37 @@ fn answer_on_tables(
 }
 
 // A line behind its letter, S or K.
-pub fn stored_line(
-    letter: u8,
-    input: &mut [u8],
-    s: Source,
-    out: &mut [u8],
-    table: &mut [u32],
-    entries: &mut [u32],
-    tokens: &mut [u8],
-    answers: &mut [u32],
-    area: &mut [u8],
-) -> Source {
-    let case = read_on_tables(letter, input, s, table, entries, tokens, answers, area);
+pub fn stored_line(letter: u8, input: &mut [u8], s: Source, out: &mut [u8]) -> Source {
+    let mut table = [0u32; 16650];
+    let mut entries = [0u32; 40000];
+    let mut tokens = [0u8; 80];
+    let mut answers = [0u32; 16700];
+    let mut area = [0u8; 149785];
+    let case = read_on_tables(
+        letter,
+        input,
+        s,
+        &mut table,
+        &mut entries,
+        &mut tokens,
+        &mut answers,
+        &mut area,
+    );
     let asked = case.asked;
     let source = asked.source;
     let sound = source.sound;
     if !sound {
         return source;
     }
-    answer_on_tables(letter, case, out, table, entries, tokens, answers, area);
+    answer_on_tables(
+        letter,
+        case,
+        out,
+        &table,
+        &entries,
+        &tokens,
+        &mut answers,
+        &mut area,
+    );
     source
 }

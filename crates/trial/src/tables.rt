@@ -181,19 +181,23 @@ fn answer(
 }
 
 // A line behind its letter, B or C.
-pub fn tables_line(
-    letter: u8,
-    input: &mut [u8],
-    s: Source,
-    out: &mut [u8],
-    edges: &mut [u32],
-    levels: &mut [u32],
-    starts: &mut [u32],
-    order: &mut [u32],
-    entries: &mut [u32],
-    area: &mut [u8],
-) -> Source {
-    let case = read_case(input, s, edges, levels, starts, order, entries, area);
+pub fn tables_line(letter: u8, input: &mut [u8], s: Source, out: &mut [u8]) -> Source {
+    let mut edges = [0u32; 12300];
+    let mut levels = [0u32; 66572];
+    let mut starts = [0u32; 16650];
+    let mut order = [0u32; 16650];
+    let mut entries = [0u32; 40000];
+    let mut area = [0u8; 149785];
+    let case = read_case(
+        input,
+        s,
+        &mut edges,
+        &mut levels,
+        &mut starts,
+        &mut order,
+        &mut entries,
+        &mut area,
+    );
     let last = case.last;
     let source = last.source;
     let sound = source.sound;
@@ -204,12 +208,12 @@ pub fn tables_line(
         letter,
         case,
         out,
-        edges,
-        levels,
-        starts,
-        order,
-        entries,
-        area,
+        &edges,
+        &mut levels,
+        &mut starts,
+        &mut order,
+        &mut entries,
+        &mut area,
     );
     source
 }
