@@ -5,6 +5,7 @@ pub mod Tables
 pub mod Areas
 pub mod Agreement
 pub mod Halves
+pub mod Skips
 pub mod Reach
 pub mod Rows
 pub mod Numbers
@@ -19,4 +20,5 @@ pub mod Signature
 pub mod Walk
 pub mod Taken
 pub mod Turn
+pub mod Aside
 pub mod Firsts

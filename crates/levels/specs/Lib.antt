@@ -1,5 +1,6 @@
 pub mod Marks
 pub mod Halves
+pub mod Skips
 pub mod Chains
 pub mod Needs
 pub mod Rows

@@ -6,6 +6,7 @@ ghost use Rattle.rules.specs.Rule.{rule};
 ghost use Rattle.rules.specs.Levels.{numberAt, levelOf, sameEnds, agree};
 ghost use Rattle.levels.specs.Marks.{markedGraph};
 ghost use Rattle.levels.specs.Needs.{Pair, Marks, Stands};
+ghost use Rattle.levels.specs.Skips.{Laid};
 use super::halves::same_halves;
 use super::marks::same_steps;
 
@@ -64,7 +65,7 @@ pub fn agree(
     x: usize,
     y: usize,
 ) -> bool
-    requires { ⌜ (n ≤ 128) × (Stands n (now levels) i) × (Marks n (now area)) × (Pair n v u) × (Pair n x y) ⌝ }
+    requires { ⌜ (n ≤ 128) × (Stands n (now levels) i) × (Marks n (now area)) × (Pair n v u) × (Pair n x y) × (Laid n i (now levels) (now area)) ⌝ }
     ensures { λ r. ⌜ r ≡ agree rule (markedGraph n (now (area .entry))) i (levelOf n (now (levels .entry))) v u x y ⌝ }
 {
     if !same_ends(v, u, x, y) {
@@ -78,7 +79,7 @@ pub fn agree(
     while c < count {
         let a = first_level(i, c);
         let b = second_level(i, c);
-        if !same_halves(n, levels, a, b, v, u, x, y) {
+        if !same_halves(n, levels, a, b, area, v, u, x, y) {
             return false;
         }
         c += 1;

@@ -5,6 +5,7 @@ ghost use lib.ListN.{length};
 ghost use Rattle.rules.specs.Writing.{fill};
 ghost use Rattle.levels.specs.Chains.{word, setWord, bucketOf, Chains, Answer};
 ghost use Rattle.levels.specs.Needs.{Ready, isIn, alike};
+ghost use Rattle.levels.specs.Skips.{Laid};
 use super::agree::agree;
 use super::hashes::most_at;
 use super::marks::mark_at;
@@ -28,14 +29,14 @@ pub fn set_word(area: &mut [u8], at: usize, x: usize)
 
 // The bucket of a position.
 pub fn bucket(n: usize, i: usize, levels: &[u32], area: &[u8], p: usize) -> usize
-    requires { ⌜ (Ready n i (now levels) (now area)) × (p < n * n) ⌝ }
+    requires { ⌜ (Ready n i (now levels) (now area)) × (p < n * n) × (Laid n i (now levels) (now area)) ⌝ }
     ensures { λ r. ⌜ (r ≡ bucketOf n i (now (levels .entry)) (now (area .entry)) p) × (r < n * n) ⌝ }
 {
     let v = p / n;
     let u = p % n;
     let there = mark_at(n, area, v, u) as usize;
     let back = mark_at(n, area, u, v) as usize;
-    let h = most_at(n, i, levels, p) as usize;
+    let h = most_at(n, i, levels, area, p) as usize;
     (there + 256 * back + h) % (n * n)
 }
 
@@ -55,7 +56,7 @@ pub fn clear_heads(n: usize, area: &mut [u8])
 
 // The position of the chain of bucket b that agrees with p, or p.
 pub fn find_alike(n: usize, i: usize, levels: &[u32], area: &[u8], p: usize, b: usize) -> usize
-    requires { ⌜ (Ready n i (now levels) (now area)) × (p < n * n) × (b ≡ bucketOf n i (now levels) (now area) p) × (b < n * n) × (Chains (isIn n i (now area)) (alike n i (now levels) (now area)) (bucketOf n i (now levels) (now area)) n (now area) p) ⌝ }
+    requires { ⌜ (Ready n i (now levels) (now area)) × (p < n * n) × (b ≡ bucketOf n i (now levels) (now area) p) × (b < n * n) × (Chains (isIn n i (now area)) (alike n i (now levels) (now area)) (bucketOf n i (now levels) (now area)) n (now area) p) × (Laid n i (now levels) (now area)) ⌝ }
     ensures { λ r. ⌜ Answer (isIn n i (now (area .entry))) (alike n i (now (levels .entry)) (now (area .entry))) p r ⌝ }
 {
     let mut at = word_at(area, 4 * (n * n) + 2 * b);

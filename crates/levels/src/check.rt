@@ -7,15 +7,17 @@ ghost use Rattle.rules.specs.Levels.{levelOf};
 ghost use Rattle.rules.specs.Accept.{levelOk};
 ghost use Rattle.levels.specs.Marks.{markedGraph};
 ghost use Rattle.levels.specs.Needs.{Ready, Near, Seen, Firsts, Noted, Passed, Faulty};
+ghost use Rattle.levels.specs.Skips.{Laid};
 use super::agree::agree;
 use super::chains::set_word;
 use super::chains::word_at;
 use super::near::mark_near;
+use super::skips::lay_out;
 
 // Position p of level i is right, where top is the largest number before it and the first position of each number stands
 // in the area. A new number's first position is p, which agrees with itself.
 fn is_right(n: usize, i: usize, levels: &[u32], area: &[u8], p: usize, top: u32) -> bool
-    requires { ⌜ (Ready n i (now levels) (now area)) × (Near n i (now area)) × (Seen n i (now levels) p top) × (Firsts n i (now levels) (now area) top) ⌝ }
+    requires { ⌜ (Ready n i (now levels) (now area)) × (Near n i (now area)) × (Seen n i (now levels) p top) × (Firsts n i (now levels) (now area) top) × (Laid n i (now levels) (now area)) ⌝ }
     ensures { λ r. ⌜ r ≡ levelOk rule (markedGraph n (now (area .entry))) i (levelOf n (now (levels .entry))) p ⌝ }
 {
     let c = levels[(i - 1) * (n * n) + p];
@@ -46,7 +48,7 @@ fn note_first(n: usize, area: &mut [u8], p: usize, c: u32, top: u32) -> u32
 
 // The first faulty position of level i, or n*n, where the bytes of the connected pairs stand.
 fn check_positions(n: usize, i: usize, levels: &[u32], area: &mut [u8]) -> usize
-    requires { ⌜ (Ready n i (now levels) (now area)) × (Near n i (now area)) ⌝ }
+    requires { ⌜ (Ready n i (now levels) (now area)) × (Near n i (now area)) × (Laid n i (now levels) (now area)) ⌝ }
     ensures { λ r. ⌜ Passed n i (now (levels .entry)) (now (area .entry)) r (now (area .exit)) ⌝ }
 {
     let start = (i - 1) * (n * n);
@@ -67,6 +69,7 @@ pub fn check_level(n: usize, i: usize, levels: &[u32], area: &mut [u8]) -> usize
     requires { ⌜ Ready n i (now levels) (now area) ⌝ }
     ensures { λ r. ⌜ Faulty n i (now (levels .entry)) (now (area .entry)) r (now (area .exit)) ⌝ }
 {
+    lay_out(n, i, levels, area);
     mark_near(n, i, levels, area);
     check_positions(n, i, levels, area)
 }

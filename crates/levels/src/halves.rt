@@ -7,7 +7,9 @@ ghost use Rattle.rules.specs.Finite.{allBelow};
 ghost use Rattle.rules.specs.Levels.{levelOf, twins};
 ghost use Rattle.levels.specs.Needs.{Pair, Stands};
 ghost use Rattle.levels.specs.Halves.{pairOf, Listed, Halves, hasSame};
+ghost use Rattle.levels.specs.Skips.{Skips};
 use super::agree::number_at;
+use super::skips::next_from;
 
 // Two numbers in one.
 fn pair_of(a: u32, b: u32) -> u64
@@ -27,40 +29,40 @@ fn is_last(list: &[u64], k: usize, x: u64) -> bool
     list[k - 1] == x
 }
 
-// The midpoints of (v,u): first halves by one level, second halves by another. One that equals the last is left out. Answers how many.
+// The midpoints of (v,u): first halves by one level, second halves by another. Only items that the first connects with v are looked
+// at; a midpoint that equals the last is left out. Answers how many.
 pub fn halves(
     n: usize,
     levels: &[u32],
     first: usize,
     second: usize,
+    area: &[u8],
     v: usize,
     u: usize,
     list: &mut [u64],
 ) -> usize
-    requires { ⌜ (Stands n (now levels) first) × (Stands n (now levels) second) × (Pair n v u) × (n ≤ length (now list)) ⌝ }
+    requires { ⌜ (Stands n (now levels) first) × (Stands n (now levels) second) × (Pair n v u) × (n ≤ length (now list)) × (Skips n (levelOf n (now levels) first) (now area)) ⌝ }
     ensures { λ r. ⌜ Halves n (levelOf n (now (levels .entry)) first) (levelOf n (now (levels .entry)) second) v u n r (now (list .exit)) ⌝ }
 {
     let mut k = 0;
     let mut m = 0;
     while m < n {
-        let a = number_at(n, levels, first, v, m);
-        if a == 0 {
-            m += 1;
-            continue;
+        let w = next_from(n, area, v, m);
+        if w == n {
+            return k;
         }
-        let b = number_at(n, levels, second, m, u);
+        let a = number_at(n, levels, first, v, w);
+        let b = number_at(n, levels, second, w, u);
+        m = w + 1;
         if b == 0 {
-            m += 1;
             continue;
         }
         let x = pair_of(a, b);
         if is_last(list, k, x) {
-            m += 1;
             continue;
         }
         list[k] = x;
         k += 1;
-        m += 1;
     }
     k
 }
@@ -90,18 +92,19 @@ pub fn same_halves(
     levels: &[u32],
     first: usize,
     second: usize,
+    area: &[u8],
     v: usize,
     u: usize,
     x: usize,
     y: usize,
 ) -> bool
-    requires { ⌜ (n ≤ 128) × (Stands n (now levels) first) × (Stands n (now levels) second) × (Pair n v u) × (Pair n x y) ⌝ }
+    requires { ⌜ (n ≤ 128) × (Stands n (now levels) first) × (Stands n (now levels) second) × (Pair n v u) × (Pair n x y) × (Skips n (levelOf n (now levels) first) (now area)) ⌝ }
     ensures { λ r. ⌜ r ≡ (twins n (levelOf n (now (levels .entry)) first) (levelOf n (now (levels .entry)) second) v u x y && twins n (levelOf n (now (levels .entry)) first) (levelOf n (now (levels .entry)) second) x y v u) ⌝ }
 {
     let mut mine: [u64; 128] = [0; 128];
     let mut other: [u64; 128] = [0; 128];
-    let k = halves(n, levels, first, second, v, u, &mut mine);
-    let j = halves(n, levels, first, second, x, y, &mut other);
+    let k = halves(n, levels, first, second, area, v, u, &mut mine);
+    let j = halves(n, levels, first, second, area, x, y, &mut other);
     if !within(&mine, k, &other, j) {
         return false;
     }

@@ -5,6 +5,7 @@ ghost use lib.ListN.{length, getD};
 ghost use Rattle.rules.specs.Rule.{rule};
 ghost use Rattle.levels.specs.Chains.{mixOf, hashOf, Small, Raised, Mosts, splitMost, mostOf};
 ghost use Rattle.levels.specs.Needs.{Stands};
+ghost use Rattle.levels.specs.Skips.{Laid};
 use super::agree::first_level;
 use super::agree::second_level;
 use super::agree::splits;
@@ -83,25 +84,25 @@ fn most_of(list: &[u64], k: usize) -> Most
 }
 
 // The largest hashes of the midpoints in the first split of level i, together.
-fn split_most(n: usize, i: usize, levels: &[u32], p: usize) -> u64
-    requires { ⌜ (n ≤ 128) × (Stands n (now levels) i) × (p < n * n) × (0 < rule .many i) ⌝ }
+fn split_most(n: usize, i: usize, levels: &[u32], area: &[u8], p: usize) -> u64
+    requires { ⌜ (n ≤ 128) × (Stands n (now levels) i) × (p < n * n) × (0 < rule .many i) × (Laid n i (now levels) (now area)) ⌝ }
     ensures { λ r. ⌜ (r ≡ splitMost n i (now (levels .entry)) p) × (r < 17179869184) ⌝ }
 {
     let mut list: [u64; 128] = [0; 128];
     let a = first_level(i, 0);
     let b = second_level(i, 0);
-    let k = halves(n, levels, a, b, p / n, p % n, &mut list);
+    let k = halves(n, levels, a, b, area, p / n, p % n, &mut list);
     let m = most_of(&list, k);
     m.none + m.quarter + m.half + m.most
 }
 
 // The same; 0 where level i has no split.
-pub fn most_at(n: usize, i: usize, levels: &[u32], p: usize) -> u64
-    requires { ⌜ (n ≤ 128) × (Stands n (now levels) i) × (p < n * n) ⌝ }
+pub fn most_at(n: usize, i: usize, levels: &[u32], area: &[u8], p: usize) -> u64
+    requires { ⌜ (n ≤ 128) × (Stands n (now levels) i) × (p < n * n) × (Laid n i (now levels) (now area)) ⌝ }
     ensures { λ r. ⌜ (r ≡ mostOf n i (now (levels .entry)) p) × (r < 17179869184) ⌝ }
 {
     if splits(i) == 0 {
         return 0;
     }
-    split_most(n, i, levels, p)
+    split_most(n, i, levels, area, p)
 }

@@ -8,3 +8,4 @@ mod hashes;
 pub mod marks;
 pub mod near;
 pub mod number;
+mod skips;

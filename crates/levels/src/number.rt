@@ -3,16 +3,18 @@ ghost use mathlib.Core.Path.{_≡_};
 ghost use Prim.Native.Nat.{ℕ, _+_, _*_, _-_, _<_, _≤_};
 ghost use Rattle.levels.specs.Chains.{Chains, bucketOf};
 ghost use Rattle.levels.specs.Needs.{Ready, Near, Begun, Taken, Positioned, Numbered, isIn, alike};
+ghost use Rattle.levels.specs.Skips.{Laid};
 use super::chains::add_head;
 use super::chains::bucket;
 use super::chains::clear_heads;
 use super::chains::find_alike;
 use super::near::mark_near;
+use super::skips::lay_out;
 
 // The number of position p, where the numbers before it stand and top is the largest of them: that of an earlier position
 // that agrees, or a new one. Only positions of the same bucket are compared: alike positions share it.
 fn next_number(n: usize, i: usize, levels: &[u32], area: &mut [u8], p: usize, top: u32) -> u32
-    requires { ⌜ (Ready n i (now levels) (now area)) × (Near n i (now area)) × (Begun n i (now levels) (now area) p top) × (p < n * n) × (Chains (isIn n i (now area)) (alike n i (now levels) (now area)) (bucketOf n i (now levels) (now area)) n (now area) p) ⌝ }
+    requires { ⌜ (Ready n i (now levels) (now area)) × (Near n i (now area)) × (Begun n i (now levels) (now area) p top) × (p < n * n) × (Chains (isIn n i (now area)) (alike n i (now levels) (now area)) (bucketOf n i (now levels) (now area)) n (now area) p) × (Laid n i (now levels) (now area)) ⌝ }
     ensures { λ r. ⌜ Taken n i (now (levels .entry)) (now (area .entry)) p r (now (area .exit)) ⌝ }
 {
     if area[n * n + p] == 0 {
@@ -29,7 +31,7 @@ fn next_number(n: usize, i: usize, levels: &[u32], area: &mut [u8], p: usize, to
 
 // The numbers of level i in their place, where the bytes of the connected pairs stand and the chains are empty.
 fn number_positions(n: usize, i: usize, levels: &mut [u32], area: &mut [u8]) -> u32
-    requires { ⌜ (Ready n i (now levels) (now area)) × (Near n i (now area)) × (Chains (isIn n i (now area)) (alike n i (now levels) (now area)) (bucketOf n i (now levels) (now area)) n (now area) 0) ⌝ }
+    requires { ⌜ (Ready n i (now levels) (now area)) × (Near n i (now area)) × (Chains (isIn n i (now area)) (alike n i (now levels) (now area)) (bucketOf n i (now levels) (now area)) n (now area) 0) × (Laid n i (now levels) (now area)) ⌝ }
     ensures { λ r. ⌜ Positioned n i (now (levels .entry)) (now (area .entry)) r (now (levels .exit)) (now (area .exit)) ⌝ }
 {
     let start = (i - 1) * (n * n);
@@ -51,6 +53,7 @@ pub fn number_level(n: usize, i: usize, levels: &mut [u32], area: &mut [u8]) -> 
     requires { ⌜ Ready n i (now levels) (now area) ⌝ }
     ensures { λ r. ⌜ Numbered n i (now (levels .entry)) (now (area .entry)) r (now (levels .exit)) (now (area .exit)) ⌝ }
 {
+    lay_out(n, i, levels, area);
     mark_near(n, i, levels, area);
     clear_heads(n, area);
     number_positions(n, i, levels, area)

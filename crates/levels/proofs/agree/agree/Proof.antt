@@ -54,6 +54,7 @@ same-halves-requires c κs =
       second-stands _ _ _ (a .pre .1) _ (s .splits .ensures) (b .before .loop-test .taken) (c .second-level .ensures),
       a .pre .3,
       a .pre .4,
+      rw (b .first-level .ensures) (a .pre .5 .skips _ (rw (s .splits .ensures) at (b .before .loop-test .taken))),
     )
 
 returns-3 : tie.Need-returns-3 Inv-loop μ-loop

@@ -60,6 +60,7 @@ agree-requires c κs =
       record { room = omega arith },
       record { first = omega arith; second = omega arith },
       record { first = omega arith; second = omega arith },
+      a .pre .5,
     )
 
 returns : tie.Need-returns Inv-loop μ-loop

@@ -120,6 +120,7 @@ agree-requires c κs =
       record { room = omega arith },
       record { first = omega arith; second = omega arith },
       record { first = omega arith; second = omega arith },
+      a .pre .4,
     )
 
 returns-4 : tie.Need-returns-4

@@ -37,7 +37,7 @@ returns c =
     let w = c .before in
     let h2 = w .before .before .before .before in
     let h1 = h2 .before .before .before in
-    let s = h1 .before .before in
+    let s = h1 .before .before .before in
     let a = s .before in
     let small : (q : ℕ) → getD (a .args .levels .now) q 0 < 4294967296 = λ q. omega (arith, s .shared-slice-known .given q) in
     both-no _ (w .within .ensures ∙ within-twins _ _ _ (number-small _ _ _ (a .pre .2 .some) small) _ _ _ _ (a .pre .3 .second) (a .pre .4 .second) _ _ _ _ (h1 .halves .ensures) (h2 .halves2 .ensures))
@@ -61,7 +61,7 @@ returns-2 c =
     let w = e .before in
     let h2 = w .before .before .before .before in
     let h1 = h2 .before .before .before in
-    let s = h1 .before .before in
+    let s = h1 .before .before .before in
     let a = s .before in
     let small : (q : ℕ) → getD (a .args .levels .now) q 0 < 4294967296 = λ q. omega (arith, s .shared-slice-known .given q) in
     let numbers = number-small _ _ _ (a .pre .2 .some) small in

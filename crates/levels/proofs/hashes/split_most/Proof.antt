@@ -15,10 +15,10 @@ second-level-requires : tie.Need-second-level-requires
 second-level-requires c κs = search needs
 
 div-halves : tie.Need-div-halves
-div-halves c = some-items _ _ (c .before .before .before .pre .2)
+div-halves c = some-items _ _ (c .before .before .before .before .pre .2)
 
 rem-halves : tie.Need-rem-halves
-rem-halves c = some-items _ _ (c .before .before .before .pre .2)
+rem-halves c = some-items _ _ (c .before .before .before .before .pre .2)
 
 slice-aggregate-halves : tie.Need-slice-aggregate-halves
 slice-aggregate-halves c = search needs
@@ -26,11 +26,12 @@ slice-aggregate-halves c = search needs
 halves-requires : tie.Need-halves-requires
 halves-requires c κs =
     let b = c .before in
-    let a = b .before .before .before in (
+    let a = b .before .before .before .before in (
       first-stands _ _ _ (a .pre .1) 0 refl (a .pre .3) (b .before .first-level .ensures),
       second-stands _ _ _ (a .pre .1) 0 refl (a .pre .3) (b .second-level .ensures),
       record { first = row-lt _ _ (a .pre .2); second = column-lt _ _ (a .pre .2) },
       a .pre .0,
+      rw (b .before .first-level .ensures) (a .pre .4 .skips 0 (a .pre .3)),
     )
 
 slice-aggregate-most-of : tie.Need-slice-aggregate-most-of
