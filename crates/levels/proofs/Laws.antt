@@ -14,6 +14,7 @@ pub mod Right
 pub mod Same
 pub mod Stack
 pub mod Built
+pub mod Repeat
 pub mod Words
 pub mod Chains
 pub mod Signature

@@ -1,17 +1,21 @@
 // Checking the numbers of a level, whoever wrote them.
 ghost use mathlib.Core.Path.{_≡_};
+ghost use mathlib.Core.Bool.{true};
 ghost use Prim.Native.Nat.{ℕ, _+_, _*_, _-_, _<_, _≤_};
 ghost use lib.ListN.{length};
 ghost use Rattle.rules.specs.Rule.{rule};
 ghost use Rattle.rules.specs.Levels.{levelOf};
 ghost use Rattle.rules.specs.Accept.{levelOk};
 ghost use Rattle.levels.specs.Marks.{markedGraph};
-ghost use Rattle.levels.specs.Needs.{Ready, Near, Seen, Firsts, Noted, Passed, Faulty};
+ghost use Rattle.levels.specs.Needs.{Stands, Ready, Near, Seen, Firsts, Noted, Passed, Faulty};
+ghost use Rattle.levels.specs.Repeat.{Repeats};
 ghost use Rattle.levels.specs.Skips.{Laid};
 use super::agree::agree;
 use super::chains::set_word;
 use super::chains::word_at;
 use super::near::mark_near;
+use super::repeat::repeats;
+use super::repeat::same_below;
 use super::skips::lay_out;
 
 // Position p of level i is right, where top is the largest number before it and the first position of each number stands
@@ -65,11 +69,34 @@ fn check_positions(n: usize, i: usize, levels: &[u32], area: &mut [u8]) -> usize
 }
 
 // The first faulty position of level i, or n*n, where the levels below are right.
-pub fn check_level(n: usize, i: usize, levels: &[u32], area: &mut [u8]) -> usize
+fn check_level(n: usize, i: usize, levels: &[u32], area: &mut [u8]) -> usize
     requires { ⌜ Ready n i (now levels) (now area) ⌝ }
     ensures { λ r. ⌜ Faulty n i (now (levels .entry)) (now (area .entry)) r (now (area .exit)) ⌝ }
 {
     lay_out(n, i, levels, area);
     mark_near(n, i, levels, area);
     check_positions(n, i, levels, area)
+}
+
+// Level i repeats the two levels below it.
+fn repeats_on(n: usize, i: usize, levels: &[u32]) -> bool
+    requires { ⌜ Stands n (now levels) i ⌝ }
+    ensures { λ r. ⌜ (r ≡ true → (Repeats n i (now (levels .entry))) × (levelOf n (now (levels .entry)) i ≡ levelOf n (now (levels .entry)) (i - 1))) ⌝ }
+{
+    if !repeats(n, i, levels) {
+        return false;
+    }
+    same_below(n, i, levels)
+}
+
+// The first faulty position of level i, or n*n. Where the two levels below are the same, so is a right level i: it is accepted without
+// a search if it is, and otherwise the search finds the fault.
+pub fn level_fault(n: usize, i: usize, levels: &[u32], area: &mut [u8]) -> usize
+    requires { ⌜ Ready n i (now levels) (now area) ⌝ }
+    ensures { λ r. ⌜ Faulty n i (now (levels .entry)) (now (area .entry)) r (now (area .exit)) ⌝ }
+{
+    if repeats_on(n, i, levels) {
+        return n * n;
+    }
+    check_level(n, i, levels, area)
 }

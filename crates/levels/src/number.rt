@@ -3,12 +3,15 @@ ghost use mathlib.Core.Path.{_≡_};
 ghost use Prim.Native.Nat.{ℕ, _+_, _*_, _-_, _<_, _≤_};
 ghost use Rattle.levels.specs.Chains.{Chains, bucketOf};
 ghost use Rattle.levels.specs.Needs.{Ready, Near, Begun, Taken, Positioned, Numbered, isIn, alike};
+ghost use Rattle.levels.specs.Repeat.{Topped};
 ghost use Rattle.levels.specs.Skips.{Laid};
 use super::chains::add_head;
 use super::chains::bucket;
 use super::chains::clear_heads;
 use super::chains::find_alike;
 use super::near::mark_near;
+use super::repeat::copy_below;
+use super::repeat::repeats;
 use super::skips::lay_out;
 
 // The number of position p, where the numbers before it stand and top is the largest of them: that of an earlier position
@@ -49,7 +52,7 @@ fn number_positions(n: usize, i: usize, levels: &mut [u32], area: &mut [u8]) -> 
 }
 
 // Level i is numbered over the levels below. Answers how many classes it has.
-pub fn number_level(n: usize, i: usize, levels: &mut [u32], area: &mut [u8]) -> u32
+fn number_level(n: usize, i: usize, levels: &mut [u32], area: &mut [u8]) -> u32
     requires { ⌜ Ready n i (now levels) (now area) ⌝ }
     ensures { λ r. ⌜ Numbered n i (now (levels .entry)) (now (area .entry)) r (now (levels .exit)) (now (area .exit)) ⌝ }
 {
@@ -57,4 +60,16 @@ pub fn number_level(n: usize, i: usize, levels: &mut [u32], area: &mut [u8]) -> 
     mark_near(n, i, levels, area);
     clear_heads(n, area);
     number_positions(n, i, levels, area)
+}
+
+// The same, where top is how many classes the level below has. Above two levels that are the same it is a copy.
+pub fn next_level(n: usize, i: usize, levels: &mut [u32], area: &mut [u8], top: u32) -> u32
+    requires { ⌜ (Ready n i (now levels) (now area)) × (Topped n i (now levels) (now area) top) ⌝ }
+    ensures { λ r. ⌜ Numbered n i (now (levels .entry)) (now (area .entry)) r (now (levels .exit)) (now (area .exit)) ⌝ }
+{
+    if repeats(n, i, levels) {
+        copy_below(n, i, levels);
+        return top;
+    }
+    number_level(n, i, levels, area)
 }
