@@ -48,12 +48,13 @@ pub fn halves(
     let mut m = 0;
     while m < n {
         let w = next_from(n, area, v, m);
-        if w == n {
-            return k;
+        if w != m {
+            m = w;
+            continue;
         }
-        let a = number_at(n, levels, first, v, w);
-        let b = number_at(n, levels, second, w, u);
-        m = w + 1;
+        let a = number_at(n, levels, first, v, m);
+        let b = number_at(n, levels, second, m, u);
+        m += 1;
         if b == 0 {
             continue;
         }
