@@ -18,6 +18,7 @@ pub mod Repeat
 pub mod Words
 pub mod Chains
 pub mod Signature
+pub mod Midpoints
 pub mod Walk
 pub mod Taken
 pub mod Turn

@@ -4,7 +4,7 @@ ghost use mathlib.Core.Bool.{true};
 ghost use Prim.Native.Nat.{ℕ, _+_, _*_, _-_, _<_, _≤_};
 ghost use lib.ListN.{length};
 ghost use Rattle.rules.specs.Rule.{rule};
-ghost use Rattle.rules.specs.Levels.{levelOf};
+ghost use Rattle.rules.specs.Levels.{levelOf, agreeAt};
 ghost use Rattle.rules.specs.Accept.{levelOk};
 ghost use Rattle.levels.specs.Marks.{markedGraph};
 ghost use Rattle.levels.specs.Needs.{Stands, Ready, Near, Seen, Firsts, Noted, Passed, Faulty};
@@ -13,10 +13,23 @@ ghost use Rattle.levels.specs.Skips.{Laid};
 use super::agree::agree;
 use super::chains::set_word;
 use super::chains::word_at;
+use super::halves::midpoints;
 use super::near::mark_near;
 use super::repeat::repeats;
 use super::repeat::same_below;
 use super::skips::lay_out;
+
+// The pairs at p and q agree at level i.
+fn agree_at(n: usize, i: usize, levels: &[u32], area: &[u8], p: usize, q: usize) -> bool
+    requires { ⌜ (Ready n i (now levels) (now area)) × (p < n * n) × (q < n * n) × (Laid n i (now levels) (now area)) ⌝ }
+    ensures { λ r. ⌜ r ≡ agreeAt rule (markedGraph n (now (area .entry))) i (levelOf n (now (levels .entry))) p q ⌝ }
+{
+    let mut mine: [u64; 128] = [0; 128];
+    let mut other: [u64; 128] = [0; 128];
+    let k = midpoints(n, i, levels, area, p, &mut mine);
+    let j = midpoints(n, i, levels, area, q, &mut other);
+    agree(n, area, p / n, p % n, q / n, q % n, &mine, k, &other, j)
+}
 
 // Position p of level i is right, where top is the largest number before it and the first position of each number stands
 // in the area. A new number's first position is p, which agrees with itself.
@@ -35,7 +48,7 @@ fn is_right(n: usize, i: usize, levels: &[u32], area: &[u8], p: usize, top: u32)
         return c == top + 1;
     }
     let q = word_at(area, 2 * (n * n) + 2 * (c as usize - 1));
-    agree(n, i, levels, area, p / n, p % n, q / n, q % n)
+    agree_at(n, i, levels, area, p, q)
 }
 
 // The largest number so far; where c is a new one, p is kept as its first position.

@@ -9,6 +9,7 @@ use super::chains::add_head;
 use super::chains::bucket;
 use super::chains::clear_heads;
 use super::chains::find_alike;
+use super::halves::midpoints;
 use super::near::mark_near;
 use super::repeat::copy_below;
 use super::repeat::repeats;
@@ -23,8 +24,10 @@ fn next_number(n: usize, i: usize, levels: &[u32], area: &mut [u8], p: usize, to
     if area[n * n + p] == 0 {
         return 0;
     }
-    let b = bucket(n, i, levels, area, p);
-    let q = find_alike(n, i, levels, area, p, b);
+    let mut mine: [u64; 128] = [0; 128];
+    let k = midpoints(n, i, levels, area, p, &mut mine);
+    let b = bucket(n, area, p, &mine, k);
+    let q = find_alike(n, i, levels, area, p, b, &mine, k);
     if q < p {
         return levels[(i - 1) * (n * n) + q];
     }
