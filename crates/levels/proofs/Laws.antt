@@ -5,6 +5,7 @@ pub mod Tables
 pub mod Areas
 pub mod Agreement
 pub mod Halves
+pub mod Skips
 pub mod Reach
 pub mod Rows
 pub mod Numbers
@@ -13,10 +14,13 @@ pub mod Right
 pub mod Same
 pub mod Stack
 pub mod Built
+pub mod Repeat
 pub mod Words
 pub mod Chains
 pub mod Signature
+pub mod Midpoints
 pub mod Walk
 pub mod Taken
 pub mod Turn
+pub mod Aside
 pub mod Firsts

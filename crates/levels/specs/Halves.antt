@@ -6,7 +6,8 @@ use mathlib.Core.Bool.{Bool}
 use lib.Dec.{eqb}
 use lib.ListN.{length, getD}
 use Rattle.rules.specs.Finite.{anyBelow}
-use Rattle.rules.specs.Levels.{numberAt}
+use Rattle.rules.specs.Rule.{rule}
+use Rattle.rules.specs.Levels.{numberAt, levelOf}
 
 -- two numbers in one
 abbrev pub pairOf : ℕ → ℕ → ℕ
@@ -32,6 +33,14 @@ pub record Halves (n : ℕ) (s t : List ℕ) (v u m k : ℕ) (list : List ℕ) :
   pub room : n ≤ length list
   pub sound : (j : ℕ) → j < k → Half n s t v u m (getD list j 0)
   pub complete : (w : ℕ) → w < m → 0 < numberAt n s v w → 0 < numberAt n t w u → Listed k list (pairOf (numberAt n s v w) (numberAt n t w u))
+
+-- the first k of the list are the midpoints of (v,u) in every split of level i; the numbers of the halves are small enough to be told
+-- from the two in one
+pub record Midpoints (n i : ℕ) (levels : List ℕ) (v u k : ℕ) (list : List ℕ) : Type 0 where
+  pub few : k ≤ length list
+  pub none : rule .many i ≡ 0 → k ≡ 0
+  pub halves : (c : ℕ) → c < rule .many i → Halves n (levelOf n levels (rule .first i c)) (levelOf n levels (rule .second i c)) v u n k list
+  pub small : (c : ℕ) → c < rule .many i → (w y : ℕ) → w < n → y < n → numberAt n (levelOf n levels (rule .second i c)) w y < 4294967296
 
 -- place w of the other list has what place m of the list has
 unfoldable pub isSame : List ℕ → List ℕ → ℕ → ℕ → Bool

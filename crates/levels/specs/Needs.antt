@@ -132,10 +132,10 @@ pub record LevelsChecked (n k : ℕ) (edges levels area : List ℕ) (r : Checked
   pub verdict : (labels : ℕ) → labels ≤ 8 → EdgesFit n labels edges → r ≡ told (levelsRight rule (graphOf n labels edges) k (levelOf n levels))
   pub past : Past n area area'
 
--- of the area the marks, the bytes of connected pairs, and what lies past the first 9·n² bytes are as they were
+-- of the area the marks, the bytes of connected pairs, and what lies past the first 6·n² bytes are as they were
 pub record Steady (n : ℕ) (area area' : List ℕ) : Type 0 where
   pub front : take (2 * (n * n)) area' ≡ take (2 * (n * n)) area
-  pub rest : drop (9 * (n * n)) area' ≡ drop (9 * (n * n)) area
+  pub rest : drop (6 * (n * n)) area' ≡ drop (6 * (n * n)) area
   pub size : length area' ≡ length area
 
 -- the number of position p, and the chains with p in them

@@ -1,12 +1,15 @@
 // Agreement of two pairs over the levels below.
 ghost use mathlib.Core.Path.{_≡_};
+ghost use mathlib.Core.List.{List};
 ghost use Prim.Native.Nat.{ℕ, _*_, _<_, _≤_};
+ghost use lib.ListN.{length};
 ghost use Rattle.rules.specs.Graph.{Graph};
 ghost use Rattle.rules.specs.Rule.{rule};
 ghost use Rattle.rules.specs.Levels.{numberAt, levelOf, sameEnds, agree};
 ghost use Rattle.levels.specs.Marks.{markedGraph};
 ghost use Rattle.levels.specs.Needs.{Pair, Marks, Stands};
-use super::halves::same_halves;
+ghost use Rattle.levels.specs.Halves.{Midpoints};
+use super::halves::same_midpoints;
 use super::marks::same_steps;
 
 // The number of the pair (v,u) at a level.
@@ -53,19 +56,21 @@ pub fn second_level(i: usize, c: usize) -> usize
     i - 1
 }
 
-// The pairs (v,u) and (x,y) agree at level i: A, B, and C over the levels below.
+// The pairs (v,u) and (x,y) agree at level i: A, B, and C by the lists of their midpoints, which serve every split.
 pub fn agree(
     n: usize,
-    i: usize,
-    levels: &[u32],
     area: &[u8],
     v: usize,
     u: usize,
     x: usize,
     y: usize,
+    mine: &[u64],
+    k: usize,
+    other: &[u64],
+    j: usize,
 ) -> bool
-    requires { ⌜ (n ≤ 128) × (Stands n (now levels) i) × (Marks n (now area)) × (Pair n v u) × (Pair n x y) ⌝ }
-    ensures { λ r. ⌜ r ≡ agree rule (markedGraph n (now (area .entry))) i (levelOf n (now (levels .entry))) v u x y ⌝ }
+    requires { ⌜ (Marks n (now area)) × (Pair n v u) × (Pair n x y) × (k ≤ length (now mine)) × (j ≤ length (now other)) ⌝ }
+    ensures { λ r. ⌜ ((i : ℕ) → (levels : List ℕ) → Midpoints n i levels v u k (now (mine .entry)) → Midpoints n i levels x y j (now (other .entry)) → r ≡ agree rule (markedGraph n (now (area .entry))) i (levelOf n levels) v u x y) ⌝ }
 {
     if !same_ends(v, u, x, y) {
         return false;
@@ -73,15 +78,5 @@ pub fn agree(
     if !same_steps(n, area, v, u, x, y) {
         return false;
     }
-    let count = splits(i);
-    let mut c = 0;
-    while c < count {
-        let a = first_level(i, c);
-        let b = second_level(i, c);
-        if !same_halves(n, levels, a, b, v, u, x, y) {
-            return false;
-        }
-        c += 1;
-    }
-    true
+    same_midpoints(mine, k, other, j)
 }

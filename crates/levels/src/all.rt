@@ -2,9 +2,9 @@
 ghost use mathlib.Core.Path.{_≡_};
 ghost use Prim.Native.Nat.{ℕ, _*_, _<_, _≤_};
 ghost use Rattle.levels.specs.Needs.{EdgesFit, Room, Stacked, Judged, LevelsBuilt, LevelsChecked};
-use super::check::check_level;
+use super::check::level_fault;
 use super::marks::mark_edges;
-use super::number::number_level;
+use super::number::next_level;
 use rules::Checked;
 use rules::Refusal;
 
@@ -16,7 +16,7 @@ fn number_levels(n: usize, k: usize, levels: &mut [u32], area: &mut [u8]) -> u32
     let mut top: u32 = 0;
     let mut i = 0;
     while i < k {
-        top = number_level(n, i + 1, levels, area);
+        top = next_level(n, i + 1, levels, area, top);
         i += 1;
     }
     top
@@ -29,7 +29,7 @@ fn judge_levels(n: usize, k: usize, levels: &[u32], area: &mut [u8]) -> Checked
 {
     let mut i = 0;
     while i < k {
-        let p = check_level(n, i + 1, levels, area);
+        let p = level_fault(n, i + 1, levels, area);
         if p < n * n {
             return Checked::Refused(Refusal::LevelFault((i + 1) as u32, p as u32));
         }

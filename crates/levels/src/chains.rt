@@ -1,11 +1,15 @@
 // Chains of positions in the area, by a bucket that alike positions share.
 ghost use mathlib.Core.Path.{_≡_};
-ghost use Prim.Native.Nat.{ℕ, _+_, _*_, _<_, _≤_};
+ghost use mathlib.Core.List.{List};
+ghost use Prim.Native.Nat.{ℕ, _+_, _*_, _/_, _%_, _<_, _≤_};
 ghost use lib.ListN.{length};
 ghost use Rattle.rules.specs.Writing.{fill};
 ghost use Rattle.levels.specs.Chains.{word, setWord, bucketOf, Chains, Answer};
+ghost use Rattle.levels.specs.Halves.{Midpoints};
 ghost use Rattle.levels.specs.Needs.{Ready, isIn, alike};
+ghost use Rattle.levels.specs.Skips.{Laid};
 use super::agree::agree;
+use super::halves::midpoints;
 use super::hashes::most_at;
 use super::marks::mark_at;
 
@@ -26,16 +30,16 @@ pub fn set_word(area: &mut [u8], at: usize, x: usize)
     area[at + 1] = (x / 256) as u8;
 }
 
-// The bucket of a position.
-pub fn bucket(n: usize, i: usize, levels: &[u32], area: &[u8], p: usize) -> usize
-    requires { ⌜ (Ready n i (now levels) (now area)) × (p < n * n) ⌝ }
-    ensures { λ r. ⌜ (r ≡ bucketOf n i (now (levels .entry)) (now (area .entry)) p) × (r < n * n) ⌝ }
+// The bucket of a position, by the list of its midpoints.
+pub fn bucket(n: usize, area: &[u8], p: usize, list: &[u64], k: usize) -> usize
+    requires { ⌜ (n ≤ 128) × (9 * (n * n) ≤ length (now area)) × (p < n * n) × (k ≤ length (now list)) ⌝ }
+    ensures { λ r. ⌜ ((i : ℕ) → (levels : List ℕ) → Midpoints n i levels (p / n) (p % n) k (now (list .entry)) → r ≡ bucketOf n i levels (now (area .entry)) p) × (r < n * n) ⌝ }
 {
     let v = p / n;
     let u = p % n;
     let there = mark_at(n, area, v, u) as usize;
     let back = mark_at(n, area, u, v) as usize;
-    let h = most_at(n, i, levels, p) as usize;
+    let h = most_at(list, k) as usize;
     (there + 256 * back + h) % (n * n)
 }
 
@@ -53,15 +57,26 @@ pub fn clear_heads(n: usize, area: &mut [u8])
     }
 }
 
-// The position of the chain of bucket b that agrees with p, or p.
-pub fn find_alike(n: usize, i: usize, levels: &[u32], area: &[u8], p: usize, b: usize) -> usize
-    requires { ⌜ (Ready n i (now levels) (now area)) × (p < n * n) × (b ≡ bucketOf n i (now levels) (now area) p) × (b < n * n) × (Chains (isIn n i (now area)) (alike n i (now levels) (now area)) (bucketOf n i (now levels) (now area)) n (now area) p) ⌝ }
+// The position of the chain of bucket b that agrees with p, or p, where the midpoints of p are listed.
+pub fn find_alike(
+    n: usize,
+    i: usize,
+    levels: &[u32],
+    area: &[u8],
+    p: usize,
+    b: usize,
+    mine: &[u64],
+    k: usize,
+) -> usize
+    requires { ⌜ (Ready n i (now levels) (now area)) × (p < n * n) × (b ≡ bucketOf n i (now levels) (now area) p) × (b < n * n) × (Chains (isIn n i (now area)) (alike n i (now levels) (now area)) (bucketOf n i (now levels) (now area)) n (now area) p) × (Laid n i (now levels) (now area)) × (Midpoints n i (now levels) (p / n) (p % n) k (now mine)) ⌝ }
     ensures { λ r. ⌜ Answer (isIn n i (now (area .entry))) (alike n i (now (levels .entry)) (now (area .entry))) p r ⌝ }
 {
+    let mut other: [u64; 128] = [0; 128];
     let mut at = word_at(area, 4 * (n * n) + 2 * b);
     while at != 0 {
         let q = at - 1;
-        if agree(n, i, levels, area, q / n, q % n, p / n, p % n) {
+        let j = midpoints(n, i, levels, area, q, &mut other);
+        if agree(n, area, q / n, q % n, p / n, p % n, &other, j, mine, k) {
             return q;
         }
         at = word_at(area, 2 * (n * n) + 2 * q);

@@ -1,21 +1,40 @@
 // Checking the numbers of a level, whoever wrote them.
 ghost use mathlib.Core.Path.{_≡_};
+ghost use mathlib.Core.Bool.{true};
 ghost use Prim.Native.Nat.{ℕ, _+_, _*_, _-_, _<_, _≤_};
 ghost use lib.ListN.{length};
 ghost use Rattle.rules.specs.Rule.{rule};
-ghost use Rattle.rules.specs.Levels.{levelOf};
+ghost use Rattle.rules.specs.Levels.{levelOf, agreeAt};
 ghost use Rattle.rules.specs.Accept.{levelOk};
 ghost use Rattle.levels.specs.Marks.{markedGraph};
-ghost use Rattle.levels.specs.Needs.{Ready, Near, Seen, Firsts, Noted, Passed, Faulty};
+ghost use Rattle.levels.specs.Needs.{Stands, Ready, Near, Seen, Firsts, Noted, Passed, Faulty};
+ghost use Rattle.levels.specs.Repeat.{Repeats};
+ghost use Rattle.levels.specs.Skips.{Laid};
 use super::agree::agree;
 use super::chains::set_word;
 use super::chains::word_at;
+use super::halves::midpoints;
 use super::near::mark_near;
+use super::repeat::repeats;
+use super::repeat::same_below;
+use super::skips::lay_out;
+
+// The pairs at p and q agree at level i.
+fn agree_at(n: usize, i: usize, levels: &[u32], area: &[u8], p: usize, q: usize) -> bool
+    requires { ⌜ (Ready n i (now levels) (now area)) × (p < n * n) × (q < n * n) × (Laid n i (now levels) (now area)) ⌝ }
+    ensures { λ r. ⌜ r ≡ agreeAt rule (markedGraph n (now (area .entry))) i (levelOf n (now (levels .entry))) p q ⌝ }
+{
+    let mut mine: [u64; 128] = [0; 128];
+    let mut other: [u64; 128] = [0; 128];
+    let k = midpoints(n, i, levels, area, p, &mut mine);
+    let j = midpoints(n, i, levels, area, q, &mut other);
+    agree(n, area, p / n, p % n, q / n, q % n, &mine, k, &other, j)
+}
 
 // Position p of level i is right, where top is the largest number before it and the first position of each number stands
 // in the area. A new number's first position is p, which agrees with itself.
 fn is_right(n: usize, i: usize, levels: &[u32], area: &[u8], p: usize, top: u32) -> bool
-    requires { ⌜ (Ready n i (now levels) (now area)) × (Near n i (now area)) × (Seen n i (now levels) p top) × (Firsts n i (now levels) (now area) top) ⌝ }
+    requires { ⌜ (Ready n i (now levels) (now area)) × (Near n i (now area)) × (Seen n i (now levels) p top) × (Firsts n i (now levels) (now area) top) × (Laid n i (now levels) (now area)) ⌝ }
     ensures { λ r. ⌜ r ≡ levelOk rule (markedGraph n (now (area .entry))) i (levelOf n (now (levels .entry))) p ⌝ }
 {
     let c = levels[(i - 1) * (n * n) + p];
@@ -29,7 +48,7 @@ fn is_right(n: usize, i: usize, levels: &[u32], area: &[u8], p: usize, top: u32)
         return c == top + 1;
     }
     let q = word_at(area, 2 * (n * n) + 2 * (c as usize - 1));
-    agree(n, i, levels, area, p / n, p % n, q / n, q % n)
+    agree_at(n, i, levels, area, p, q)
 }
 
 // The largest number so far; where c is a new one, p is kept as its first position.
@@ -46,7 +65,7 @@ fn note_first(n: usize, area: &mut [u8], p: usize, c: u32, top: u32) -> u32
 
 // The first faulty position of level i, or n*n, where the bytes of the connected pairs stand.
 fn check_positions(n: usize, i: usize, levels: &[u32], area: &mut [u8]) -> usize
-    requires { ⌜ (Ready n i (now levels) (now area)) × (Near n i (now area)) ⌝ }
+    requires { ⌜ (Ready n i (now levels) (now area)) × (Near n i (now area)) × (Laid n i (now levels) (now area)) ⌝ }
     ensures { λ r. ⌜ Passed n i (now (levels .entry)) (now (area .entry)) r (now (area .exit)) ⌝ }
 {
     let start = (i - 1) * (n * n);
@@ -63,10 +82,34 @@ fn check_positions(n: usize, i: usize, levels: &[u32], area: &mut [u8]) -> usize
 }
 
 // The first faulty position of level i, or n*n, where the levels below are right.
-pub fn check_level(n: usize, i: usize, levels: &[u32], area: &mut [u8]) -> usize
+fn check_level(n: usize, i: usize, levels: &[u32], area: &mut [u8]) -> usize
     requires { ⌜ Ready n i (now levels) (now area) ⌝ }
     ensures { λ r. ⌜ Faulty n i (now (levels .entry)) (now (area .entry)) r (now (area .exit)) ⌝ }
 {
+    lay_out(n, i, levels, area);
     mark_near(n, i, levels, area);
     check_positions(n, i, levels, area)
+}
+
+// Level i repeats the two levels below it.
+fn repeats_on(n: usize, i: usize, levels: &[u32]) -> bool
+    requires { ⌜ Stands n (now levels) i ⌝ }
+    ensures { λ r. ⌜ (r ≡ true → (Repeats n i (now (levels .entry))) × (levelOf n (now (levels .entry)) i ≡ levelOf n (now (levels .entry)) (i - 1))) ⌝ }
+{
+    if !repeats(n, i, levels) {
+        return false;
+    }
+    same_below(n, i, levels)
+}
+
+// The first faulty position of level i, or n*n. Where the two levels below are the same, so is a right level i: it is accepted without
+// a search if it is, and otherwise the search finds the fault.
+pub fn level_fault(n: usize, i: usize, levels: &[u32], area: &mut [u8]) -> usize
+    requires { ⌜ Ready n i (now levels) (now area) ⌝ }
+    ensures { λ r. ⌜ Faulty n i (now (levels .entry)) (now (area .entry)) r (now (area .exit)) ⌝ }
+{
+    if repeats_on(n, i, levels) {
+        return n * n;
+    }
+    check_level(n, i, levels, area)
 }

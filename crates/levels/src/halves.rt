@@ -1,13 +1,18 @@
 // The midpoints of a pair as a list: of each the numbers of its two halves, in one number. The twin search goes over such lists.
 ghost use mathlib.Core.Path.{_≡_};
 ghost use mathlib.Core.Bool.{_&&_, true};
-ghost use Prim.Native.Nat.{ℕ, _≤_, _<_};
+ghost use Prim.Native.Nat.{ℕ, _*_, _/_, _%_, _≤_, _<_};
 ghost use lib.ListN.{length, getD};
 ghost use Rattle.rules.specs.Finite.{allBelow};
-ghost use Rattle.rules.specs.Levels.{levelOf, twins};
+ghost use Rattle.rules.specs.Levels.{levelOf};
 ghost use Rattle.levels.specs.Needs.{Pair, Stands};
-ghost use Rattle.levels.specs.Halves.{pairOf, Listed, Halves, hasSame};
+ghost use Rattle.levels.specs.Halves.{pairOf, Listed, Halves, Midpoints, hasSame};
+ghost use Rattle.levels.specs.Skips.{Skips, Laid};
+use super::agree::first_level;
 use super::agree::number_at;
+use super::agree::second_level;
+use super::agree::splits;
+use super::skips::next_from;
 
 // Two numbers in one.
 fn pair_of(a: u32, b: u32) -> u64
@@ -27,40 +32,41 @@ fn is_last(list: &[u64], k: usize, x: u64) -> bool
     list[k - 1] == x
 }
 
-// The midpoints of (v,u): first halves by one level, second halves by another. One that equals the last is left out. Answers how many.
+// The midpoints of (v,u): first halves by one level, second halves by another. Only items that the first connects with v are looked
+// at; a midpoint that equals the last is left out. Answers how many.
 pub fn halves(
     n: usize,
     levels: &[u32],
     first: usize,
     second: usize,
+    area: &[u8],
     v: usize,
     u: usize,
     list: &mut [u64],
 ) -> usize
-    requires { ⌜ (Stands n (now levels) first) × (Stands n (now levels) second) × (Pair n v u) × (n ≤ length (now list)) ⌝ }
+    requires { ⌜ (Stands n (now levels) first) × (Stands n (now levels) second) × (Pair n v u) × (n ≤ length (now list)) × (Skips n (levelOf n (now levels) first) (now area)) ⌝ }
     ensures { λ r. ⌜ Halves n (levelOf n (now (levels .entry)) first) (levelOf n (now (levels .entry)) second) v u n r (now (list .exit)) ⌝ }
 {
     let mut k = 0;
     let mut m = 0;
     while m < n {
-        let a = number_at(n, levels, first, v, m);
-        if a == 0 {
-            m += 1;
+        let w = next_from(n, area, v, m);
+        if w != m {
+            m = w;
             continue;
         }
+        let a = number_at(n, levels, first, v, m);
         let b = number_at(n, levels, second, m, u);
+        m += 1;
         if b == 0 {
-            m += 1;
             continue;
         }
         let x = pair_of(a, b);
         if is_last(list, k, x) {
-            m += 1;
             continue;
         }
         list[k] = x;
         k += 1;
-        m += 1;
     }
     k
 }
@@ -84,26 +90,34 @@ fn within(list: &[u64], k: usize, other: &[u64], j: usize) -> bool
     all
 }
 
-// Each midpoint of (v,u) has a twin among those of (x,y), and the other way round.
-pub fn same_halves(
+// The midpoints of the pair at p for the search of level i; none where it has no split. They are of split 0: while the halves of
+// every split are of one level, the list serves them all. Answers how many.
+pub fn midpoints(
     n: usize,
+    i: usize,
     levels: &[u32],
-    first: usize,
-    second: usize,
-    v: usize,
-    u: usize,
-    x: usize,
-    y: usize,
-) -> bool
-    requires { ⌜ (n ≤ 128) × (Stands n (now levels) first) × (Stands n (now levels) second) × (Pair n v u) × (Pair n x y) ⌝ }
-    ensures { λ r. ⌜ r ≡ (twins n (levelOf n (now (levels .entry)) first) (levelOf n (now (levels .entry)) second) v u x y && twins n (levelOf n (now (levels .entry)) first) (levelOf n (now (levels .entry)) second) x y v u) ⌝ }
+    area: &[u8],
+    p: usize,
+    list: &mut [u64],
+) -> usize
+    requires { ⌜ (Stands n (now levels) i) × (p < n * n) × (n ≤ length (now list)) × (Laid n i (now levels) (now area)) ⌝ }
+    ensures { λ r. ⌜ Midpoints n i (now (levels .entry)) (p / n) (p % n) r (now (list .exit)) ⌝ }
 {
-    let mut mine: [u64; 128] = [0; 128];
-    let mut other: [u64; 128] = [0; 128];
-    let k = halves(n, levels, first, second, v, u, &mut mine);
-    let j = halves(n, levels, first, second, x, y, &mut other);
-    if !within(&mine, k, &other, j) {
+    if splits(i) == 0 {
+        return 0;
+    }
+    let a = first_level(i, 0);
+    let b = second_level(i, 0);
+    halves(n, levels, a, b, area, p / n, p % n, list)
+}
+
+// Each midpoint of a list has a twin in another, and the other way round.
+pub fn same_midpoints(mine: &[u64], k: usize, other: &[u64], j: usize) -> bool
+    requires { ⌜ (k ≤ length (now mine)) × (j ≤ length (now other)) ⌝ }
+    ensures { λ r. ⌜ r ≡ (allBelow k (hasSame (now (mine .entry)) (now (other .entry)) j) && allBelow j (hasSame (now (other .entry)) (now (mine .entry)) k)) ⌝ }
+{
+    if !within(mine, k, other, j) {
         return false;
     }
-    within(&other, j, &mine, k)
+    within(other, j, mine, k)
 }

@@ -1,14 +1,10 @@
 // A number that alike positions share, from the hashes of their midpoints: any hash would serve.
 ghost use mathlib.Core.Path.{_≡_};
-ghost use Prim.Native.Nat.{ℕ, _+_, _*_, _%_, _<_, _≤_, max};
+ghost use mathlib.Core.List.{List};
+ghost use Prim.Native.Nat.{ℕ, _+_, _*_, _/_, _%_, _<_, _≤_, max};
 ghost use lib.ListN.{length, getD};
-ghost use Rattle.rules.specs.Rule.{rule};
-ghost use Rattle.levels.specs.Chains.{mixOf, hashOf, Small, Raised, Mosts, splitMost, mostOf};
-ghost use Rattle.levels.specs.Needs.{Stands};
-use super::agree::first_level;
-use super::agree::second_level;
-use super::agree::splits;
-use super::halves::halves;
+ghost use Rattle.levels.specs.Chains.{mixOf, hashOf, Small, Raised, Mosts, mostOf};
+ghost use Rattle.levels.specs.Halves.{Midpoints};
 
 // The largest hashes so far, by four turns.
 pub struct Most {
@@ -82,26 +78,11 @@ fn most_of(list: &[u64], k: usize) -> Most
     most
 }
 
-// The largest hashes of the midpoints in the first split of level i, together.
-fn split_most(n: usize, i: usize, levels: &[u32], p: usize) -> u64
-    requires { ⌜ (n ≤ 128) × (Stands n (now levels) i) × (p < n * n) × (0 < rule .many i) ⌝ }
-    ensures { λ r. ⌜ (r ≡ splitMost n i (now (levels .entry)) p) × (r < 17179869184) ⌝ }
+// The largest hashes of a list of midpoints, together.
+pub fn most_at(list: &[u64], k: usize) -> u64
+    requires { ⌜ k ≤ length (now list) ⌝ }
+    ensures { λ r. ⌜ ((n i p : ℕ) → (levels : List ℕ) → Midpoints n i levels (p / n) (p % n) k (now (list .entry)) → r ≡ mostOf n i levels p) × (r < 17179869184) ⌝ }
 {
-    let mut list: [u64; 128] = [0; 128];
-    let a = first_level(i, 0);
-    let b = second_level(i, 0);
-    let k = halves(n, levels, a, b, p / n, p % n, &mut list);
-    let m = most_of(&list, k);
+    let m = most_of(list, k);
     m.none + m.quarter + m.half + m.most
-}
-
-// The same; 0 where level i has no split.
-pub fn most_at(n: usize, i: usize, levels: &[u32], p: usize) -> u64
-    requires { ⌜ (n ≤ 128) × (Stands n (now levels) i) × (p < n * n) ⌝ }
-    ensures { λ r. ⌜ (r ≡ mostOf n i (now (levels .entry)) p) × (r < 17179869184) ⌝ }
-{
-    if splits(i) == 0 {
-        return 0;
-    }
-    split_most(n, i, levels, p)
 }

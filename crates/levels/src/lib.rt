@@ -8,3 +8,5 @@ mod hashes;
 pub mod marks;
 pub mod near;
 pub mod number;
+mod repeat;
+mod skips;

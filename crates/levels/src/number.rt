@@ -3,23 +3,31 @@ ghost use mathlib.Core.Path.{_≡_};
 ghost use Prim.Native.Nat.{ℕ, _+_, _*_, _-_, _<_, _≤_};
 ghost use Rattle.levels.specs.Chains.{Chains, bucketOf};
 ghost use Rattle.levels.specs.Needs.{Ready, Near, Begun, Taken, Positioned, Numbered, isIn, alike};
+ghost use Rattle.levels.specs.Repeat.{Topped};
+ghost use Rattle.levels.specs.Skips.{Laid};
 use super::chains::add_head;
 use super::chains::bucket;
 use super::chains::clear_heads;
 use super::chains::find_alike;
+use super::halves::midpoints;
 use super::near::mark_near;
+use super::repeat::copy_below;
+use super::repeat::repeats;
+use super::skips::lay_out;
 
 // The number of position p, where the numbers before it stand and top is the largest of them: that of an earlier position
 // that agrees, or a new one. Only positions of the same bucket are compared: alike positions share it.
 fn next_number(n: usize, i: usize, levels: &[u32], area: &mut [u8], p: usize, top: u32) -> u32
-    requires { ⌜ (Ready n i (now levels) (now area)) × (Near n i (now area)) × (Begun n i (now levels) (now area) p top) × (p < n * n) × (Chains (isIn n i (now area)) (alike n i (now levels) (now area)) (bucketOf n i (now levels) (now area)) n (now area) p) ⌝ }
+    requires { ⌜ (Ready n i (now levels) (now area)) × (Near n i (now area)) × (Begun n i (now levels) (now area) p top) × (p < n * n) × (Chains (isIn n i (now area)) (alike n i (now levels) (now area)) (bucketOf n i (now levels) (now area)) n (now area) p) × (Laid n i (now levels) (now area)) ⌝ }
     ensures { λ r. ⌜ Taken n i (now (levels .entry)) (now (area .entry)) p r (now (area .exit)) ⌝ }
 {
     if area[n * n + p] == 0 {
         return 0;
     }
-    let b = bucket(n, i, levels, area, p);
-    let q = find_alike(n, i, levels, area, p, b);
+    let mut mine: [u64; 128] = [0; 128];
+    let k = midpoints(n, i, levels, area, p, &mut mine);
+    let b = bucket(n, area, p, &mine, k);
+    let q = find_alike(n, i, levels, area, p, b, &mine, k);
     if q < p {
         return levels[(i - 1) * (n * n) + q];
     }
@@ -29,7 +37,7 @@ fn next_number(n: usize, i: usize, levels: &[u32], area: &mut [u8], p: usize, to
 
 // The numbers of level i in their place, where the bytes of the connected pairs stand and the chains are empty.
 fn number_positions(n: usize, i: usize, levels: &mut [u32], area: &mut [u8]) -> u32
-    requires { ⌜ (Ready n i (now levels) (now area)) × (Near n i (now area)) × (Chains (isIn n i (now area)) (alike n i (now levels) (now area)) (bucketOf n i (now levels) (now area)) n (now area) 0) ⌝ }
+    requires { ⌜ (Ready n i (now levels) (now area)) × (Near n i (now area)) × (Chains (isIn n i (now area)) (alike n i (now levels) (now area)) (bucketOf n i (now levels) (now area)) n (now area) 0) × (Laid n i (now levels) (now area)) ⌝ }
     ensures { λ r. ⌜ Positioned n i (now (levels .entry)) (now (area .entry)) r (now (levels .exit)) (now (area .exit)) ⌝ }
 {
     let start = (i - 1) * (n * n);
@@ -47,11 +55,24 @@ fn number_positions(n: usize, i: usize, levels: &mut [u32], area: &mut [u8]) -> 
 }
 
 // Level i is numbered over the levels below. Answers how many classes it has.
-pub fn number_level(n: usize, i: usize, levels: &mut [u32], area: &mut [u8]) -> u32
+fn number_level(n: usize, i: usize, levels: &mut [u32], area: &mut [u8]) -> u32
     requires { ⌜ Ready n i (now levels) (now area) ⌝ }
     ensures { λ r. ⌜ Numbered n i (now (levels .entry)) (now (area .entry)) r (now (levels .exit)) (now (area .exit)) ⌝ }
 {
+    lay_out(n, i, levels, area);
     mark_near(n, i, levels, area);
     clear_heads(n, area);
     number_positions(n, i, levels, area)
+}
+
+// The same, where top is how many classes the level below has. Above two levels that are the same it is a copy.
+pub fn next_level(n: usize, i: usize, levels: &mut [u32], area: &mut [u8], top: u32) -> u32
+    requires { ⌜ (Ready n i (now levels) (now area)) × (Topped n i (now levels) (now area) top) ⌝ }
+    ensures { λ r. ⌜ Numbered n i (now (levels .entry)) (now (area .entry)) r (now (levels .exit)) (now (area .exit)) ⌝ }
+{
+    if repeats(n, i, levels) {
+        copy_below(n, i, levels);
+        return top;
+    }
+    number_level(n, i, levels, area)
 }

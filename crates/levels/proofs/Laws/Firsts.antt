@@ -61,7 +61,7 @@ module _ (n : ℕ) (area : List ℕ) (p c top r : ℕ) (area' : List ℕ) (noted
       (λ (l : top < c). rw (noted .new l)
       (record {
         front = take-word area (2 * (n * n) + 2 * top) p (2 * (n * n)) (omega arith);
-        rest = drop-word area (2 * (n * n) + 2 * top) p (9 * (n * n)) (omega arith);
+        rest = drop-word area (2 * (n * n) + 2 * top) p (6 * (n * n)) (omega arith);
         size = length-word area (2 * (n * n) + 2 * top) p;
       }))
       (λ (g : c ≤ top). rw (noted .old g) (steady-refl n area))

@@ -12,9 +12,10 @@ use lib.Seq.{getD-set-same, getD-set-other}
 use borrow.Author.Tests.{eq-eqb, ne-eqb, eqb-true, not-true, not-false}
 use Rattle.rules.specs.Finite.{anyBelow, allBelow}
 use Rattle.rules.specs.Levels.{numberAt, levelOf, isTwin, hasTwin, twins}
-use Rattle.rules.proofs.Laws.Tests.{same, and-left, and-right, or-right-of}
+use Rattle.rules.proofs.Laws.Tests.{same, order, and-left, and-right, or-right-of}
 use Rattle.rules.proofs.Laws.Finite.{any-find, any-here, all-at, all-intro}
 use Rattle.levels.specs.Halves.{pairOf, Half, Listed, Halves, isSame, hasSame}
+use Rattle.levels.specs.Skips.{Next}
 use Rattle.levels.proofs.Laws.Tables.{number-get, no-midpoint-1, no-midpoint-2, twin-found}
 
 -- the last of a list
@@ -43,8 +44,18 @@ module _ (n : ℕ) (s t : List ℕ) (v u : ℕ) where
               (eq-or-lt-of-le (omega arith));
         }
 
-    pub halves-first : {a : ℕ} → a ≡ numberAt n s v m → a ≡ 0 → Halves n s t v u (m + 1) k list
-    halves-first e z = halves-next (λ a b. absurd (omega arith))
+    -- nothing at the items before the next one
+    pub halves-skip : (w : ℕ) → Next n s v m w → Halves n s t v u w k list
+    halves-skip w d =
+        record {
+          few = omega (arith, hs .few, d .up);
+          room = hs .room;
+          sound = λ j h. let r = hs .sound j h in record { item = r .item; below = omega (arith, r .below, d .up); first = r .first; second = r .second; is = r .is };
+          complete = λ x h a b. ⊎-elim
+              (λ (l : x < m). hs .complete x l a b)
+              (λ (g : m ≤ x). absurd (omega (arith, d .zeros x g h)))
+              (order x m);
+        }
 
     pub halves-second : {b : ℕ} → b ≡ numberAt n t m u → b ≡ 0 → Halves n s t v u (m + 1) k list
     halves-second e z = halves-next (λ a b. absurd (omega arith))
@@ -56,7 +67,7 @@ module _ (n : ℕ) (s t : List ℕ) (v u : ℕ) where
       pub halves-old : Listed k list x → Halves n s t v u (m + 1) k list
       halves-old l = halves-next (λ p q. record { place = l .place; below = l .below; is = l .is ∙ is-pair })
 
-      pub halves-new : (a ≡ 0 → ⊥) → (b ≡ 0 → ⊥) → m < n → Halves n s t v u (m + 1) (k + 1) (set list k x)
+      pub halves-new : 0 < numberAt n s v m → (b ≡ 0 → ⊥) → m < n → Halves n s t v u (m + 1) (k + 1) (set list k x)
       halves-new ka kb l =
           record {
             few = omega (arith, hs .few);
@@ -64,7 +75,7 @@ module _ (n : ℕ) (s t : List ℕ) (v u : ℕ) where
             sound = λ j h. ⊎-elim
                 (λ (e : j ≡ k).
                 rw (e, getD-set-same list k x 0 (omega (arith, hs .few, hs .room)))
-                (record { item = m; below = omega arith; first = omega (arith, ka, ea); second = omega (arith, kb, eb); is = is-pair }))
+                (record { item = m; below = omega arith; first = ka; second = omega (arith, kb, eb); is = is-pair }))
                 (λ (h : j < k). rw (getD-set-other list k j x 0 (λ e. omega arith)) (further m (getD list j 0) (hs .sound j h)))
                 (eq-or-lt-of-le (omega arith));
             complete = λ w h p q. ⊎-elim

@@ -25,7 +25,7 @@ unfolding put
 put-front l at s m h r =
     take-append-le m (take at l) (s ++ drop (at + length s) l) (omega (arith, length-take-le at l r)) ∙ take-take m at l h
 
-level-kept : (n : ℕ) (l : List ℕ) (at : ℕ) (s : List ℕ) (j : ℕ) → j * (n * n) ≤ at → at ≤ length l → levelOf n (put l at s) j ≡ levelOf n l j
+pub level-kept : (n : ℕ) (l : List ℕ) (at : ℕ) (s : List ℕ) (j : ℕ) → j * (n * n) ≤ at → at ≤ length l → levelOf n (put l at s) j ≡ levelOf n l j
 unfolding levelOf
 level-kept n l at s j h r = ap (drop (pred j * (n * n))) (put-front l at s (j * (n * n)) h r)
 

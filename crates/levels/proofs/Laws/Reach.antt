@@ -30,7 +30,7 @@ module _ (n : ℕ) (levels area : List ℕ) (j v u m : ℕ) where
   unfolding reach
   reach-yes e k f t = rw (ne-eqb (numberAt n (levelOf n levels j) v m) 0 (λ z. k (e ∙ z))) (sym f ∙ t)
 
-reach-suc : (n : ℕ) (levels area : List ℕ) (j v u : ℕ) → v < n → u < n → LevelAccepted rule (markedGraph n area) (suc j) (levelOf n levels)
+pub reach-suc : (n : ℕ) (levels area : List ℕ) (j v u : ℕ) → v < n → u < n → LevelAccepted rule (markedGraph n area) (suc j) (levelOf n levels)
     → anyBelow n (reach n levels area (suc j) v u) ≡ connected (markedGraph n area) (suc (suc j)) v u
 unfolding reach
 reach-suc n levels area j v u hv hu ok =

@@ -1,5 +1,5 @@
 -- One level more: over those that stand at the front, or found right.
-use Prim.Native.Nat.{ℕ, suc, _+_, _*_, _/_, _%_, _≤_, _<_}
+use Prim.Native.Nat.{ℕ, zero, suc, _+_, _*_, _/_, _%_, _≤_, _<_}
 use mathlib.Core.Path.{_≡_, refl, sym, ap, _∙_, fun-ext}
 use mathlib.Core.List.{List, _++_, append-assoc}
 use mathlib.Core.Bool.{Bool}
@@ -7,7 +7,7 @@ use native.Mathlib.Nat.{mul-le-mul-right, zero-mul}
 use native.Mathlib.Decide.{le-ind}
 use native.Mathlib.Omega.{arith}
 use lib.Dec.{ltb}
-use lib.ListN.{length, drop, length-append}
+use lib.ListN.{length, take, drop, length-append}
 use lib.Seq.{take-at, drop-append-add, drop-drop}
 use borrow.Author.Tests.{lt-ltb, le-ltb}
 use Rattle.rules.specs.declared.Refusal.{Refusal}
@@ -21,11 +21,12 @@ use Rattle.rules.specs.Writing.{put}
 use Rattle.rules.specs.Outcomes.{front, told}
 use Rattle.rules.specs.declared.Checked.the-variants.{Accepted, Refused}
 use Rattle.rules.proofs.Laws.Agree.{agree-below}
-use Rattle.rules.proofs.Laws.Levels.{level-front, levels-size, over-length, stack-top}
+use Rattle.rules.proofs.Laws.Levels.{level-front, levels-size, over-length, stack-top, level-written, level-is}
 use Rattle.rules.proofs.Laws.Builder.{accepted-same, written-accepted}
 use Rattle.rules.proofs.Laws.Verdict.{good-or-else, both-good, good-when}
 use Rattle.levels.specs.Marks.{markedGraph}
 use Rattle.levels.specs.Needs.{Ready, Room, Kept, Placed, Faulty, Judged, base}
+use Rattle.levels.specs.Repeat.{Topped}
 use Rattle.rules.proofs.Laws.Faults.{right-accepted}
 use Rattle.rules.proofs.Laws.Fronts.{front-length}
 use Rattle.levels.proofs.Laws.Tables.{less-one}
@@ -99,6 +100,30 @@ module _ (n : ℕ) (area l : List ℕ) where
 
   pub front-count : (i j r : ℕ) (l' l'' : List ℕ) → j ≡ suc i → l' ≡ front (built i) l → Placed n j l' area r l'' → r ≡ maxOf (builtLevel rule (markedGraph n area) j)
   front-count i j r l' l'' ej e p = p .count ∙ rw (ej, e) (ap maxOf (sym (top-suc i)))
+
+  -- the level that stands on top is numbered over those below it
+  over-top : (i : ℕ) → levelOver rule (markedGraph n area) (suc i) (front (built (suc i)) l) ≡ builtLevel rule (markedGraph n area) (suc i)
+  unfolding levelOver agreeAt
+  over-top i =
+      ap (λ (r : ℕ → ℕ → Bool). numbering (connectedAt (markedGraph n area) (suc i)) r (n * n))
+      (fun-ext (λ p. fun-ext (λ q.
+      agree-below rule (markedGraph n area) (suc i) (levelOf n (front (built (suc i)) l)) (builtLevel rule (markedGraph n area))
+      (λ j h. front-level (suc i) j (omega arith) ∙ level-written rule (markedGraph n area) (suc i) j (omega arith))
+      (p / n) (p % n) (q / n) (q % n))))
+      ∙ sym (level-is rule (markedGraph n area) i)
+
+  top-numbers : (i : ℕ) → 1 < suc i → levelOf n (front (built i) l) i ≡ levelOver rule (markedGraph n area) i (front (built i) l)
+  top-numbers zero h = absurd (omega arith)
+  top-numbers (suc i) h = front-level (suc i) (suc i) (omega arith) ∙ level-written rule (markedGraph n area) (suc i) (suc i) (omega arith) ∙ sym (over-top i)
+
+  pub front-topped : (i j top : ℕ) (l' w : List ℕ) → j ≡ suc i → l' ≡ front (built i) l → top ≡ maxOf (builtLevel rule (markedGraph n area) i)
+      → take (n * n) w ≡ take (n * n) area → Topped n j l' w top
+  front-topped i j top l' w ej e m k =
+      rw (ej, e)
+      (record {
+        numbers = λ h. rw (less-one i, edges-kept n area w k) (top-numbers i h);
+        largest = m ∙ ap maxOf (sym (rw (less-one i) (front-level i i (omega arith) ∙ level-written rule (markedGraph n area) i i (omega arith))));
+      })
 
 -- the verdict on levels 1 to i, one level more
 module _ (ρ : Rule) (g : Graph) (T : ℕ → List ℕ) (i : ℕ) (so-far : levelsRight ρ g i T ≡ good) where

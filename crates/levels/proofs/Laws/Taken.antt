@@ -47,7 +47,7 @@ module _ (n : ℕ) (w : List ℕ) (b p : ℕ) (room : 9 * (n * n) ≤ length w) 
   head-steady =
       record {
         front = take-word linked head-at (p + 1) (2 * (n * n)) (omega arith) ∙ take-word w link-at (word w head-at) (2 * (n * n)) (omega arith);
-        rest = drop-word linked head-at (p + 1) (9 * (n * n)) (omega arith) ∙ drop-word w link-at (word w head-at) (9 * (n * n)) (omega arith);
+        rest = drop-word linked head-at (p + 1) (6 * (n * n)) (omega arith) ∙ drop-word w link-at (word w head-at) (6 * (n * n)) (omega arith);
         size = length-word linked head-at (p + 1) ∙ size-linked;
       }
 

@@ -8,7 +8,7 @@ use native.Mathlib.Nat.{eq-zero-or-pos}
 use native.Mathlib.Omega.{arith}
 use lib.Dec.{eqb}
 use lib.ListN.{length, getD, take, drop}
-use lib.Seq.{take-take, getD-take}
+use lib.Seq.{take-take, drop-drop, getD-take}
 use borrow.Author.Tests.{eqb-false}
 use Rattle.rules.specs.Rule.{rule}
 use Rattle.rules.specs.Levels.{levelOf, nextNumber}
@@ -18,18 +18,33 @@ use Rattle.rules.proofs.Laws.Writing.{getD-fill-in, length-fill}
 use Rattle.rules.specs.Accept.{levelOk}
 use Rattle.levels.specs.Marks.{markedGraph}
 use Rattle.levels.specs.Chains.{Chains, word, headOf, keyOf, splitMost, mostOf, bucketOf}
+use Rattle.levels.specs.Skips.{Laid}
 use Rattle.levels.specs.Needs.{Ready, Near, Begun, Kept, Steady, Positioned, Numbered, Passed, Faulty, base, isIn, alike, nearByte}
 use Rattle.levels.proofs.Laws.Areas.{edges-kept, byte-kept, ready-area, placed-kept, take-fill, drop-fill-at, near-kept}
 use Rattle.levels.proofs.Laws.Level.{numbers, still-ready, same-below, same-alike}
 use Rattle.levels.proofs.Laws.Chains.{chains-start}
 use Rattle.levels.proofs.Laws.Taken.{steady-trans}
+use Rattle.levels.proofs.Laws.Skips.{laid-kept}
 
 pub steady-marks : (n : ℕ) (w w' : List ℕ) → Steady n w w' → take (n * n) w' ≡ take (n * n) w
 steady-marks n w w' s =
     sym (take-take (n * n) (2 * (n * n)) w' (omega arith)) ∙ ap (take (n * n)) (s .front) ∙ take-take (n * n) (2 * (n * n)) w (omega arith)
 
+steady-rest : (n : ℕ) (w w' : List ℕ) → Steady n w w' → drop (9 * (n * n)) w' ≡ drop (9 * (n * n)) w
+steady-rest n w w' s = far w' ∙ ap (drop (3 * (n * n))) (s .rest) ∙ sym (far w)
+  where
+    nine : (m : ℕ) → 9 * m ≡ 6 * m + 3 * m
+    nine m = omega arith
+
+    far : (z : List ℕ) → drop (9 * (n * n)) z ≡ drop (3 * (n * n)) (drop (6 * (n * n)) z)
+    far z = ap (λ (m : ℕ). drop m z) (nine (n * n)) ∙ sym (drop-drop (3 * (n * n)) (6 * (n * n)) z)
+
 pub steady-kept : (n : ℕ) (w w' : List ℕ) → Steady n w w' → Kept n w w'
-steady-kept n w w' s = record { marks = steady-marks n w w' s; rest = s .rest; size = s .size }
+steady-kept n w w' s = record { marks = steady-marks n w w' s; rest = steady-rest n w w' s; size = s .size }
+
+-- what is laid out stays
+pub laid-steady : (n i : ℕ) (l w w' : List ℕ) → Steady n w w' → Laid n i l w → Laid n i l w'
+laid-steady n i l w w' s k = laid-kept n i l l w w' (s .rest) (s .size) (λ j h. refl) k
 
 -- the bytes of the connected pairs stay
 pub near-steady : (n i : ℕ) (w w' : List ℕ) → Near n i w → Steady n w w' → Near n i w'
@@ -65,6 +80,9 @@ module _ (n i : ℕ) (l w : List ℕ) (ready : Ready n i l w) (p : ℕ) (l' : Li
   pub turn-ready : Ready n i l' w'
   turn-ready = ready-area n i l' w w' (still-ready n i l w ready p l' e h) (steady-marks n w w' s) (s .size)
 
+  pub turn-laid : Laid n i l w → Laid n i l' w'
+  turn-laid k = laid-kept n i l l' w w' (s .rest) (s .size) (same-below n i l w ready p l' e h) k
+
   pub turn-begun : (top : ℕ) → Begun n i l' w p top → Begun n i l' w' p top
   turn-begun top b = record { numbers = rw (edges-kept n w w' (steady-marks n w w' s)) (b .numbers); largest = b .largest; small = b .small }
 
@@ -97,33 +115,37 @@ pub clear-steady : (n : ℕ) (w w' : List ℕ) → w' ≡ fill w (4 * (n * n)) (
 clear-steady n w w' e =
     record {
       front = ap (take (2 * (n * n))) e ∙ take-fill (2 * (n * n)) w (4 * (n * n)) (2 * (n * n)) (λ _. 0) (omega arith);
-      rest = ap (drop (9 * (n * n))) e ∙ drop-fill-at (9 * (n * n)) w (4 * (n * n)) (2 * (n * n)) (λ _. 0) (omega arith);
+      rest = ap (drop (6 * (n * n))) e ∙ drop-fill-at (6 * (n * n)) w (4 * (n * n)) (2 * (n * n)) (λ _. 0) (omega arith);
       size = ap length e ∙ length-fill w (4 * (n * n)) (2 * (n * n)) (λ _. 0);
     }
+
+pub laid-near : (n i : ℕ) (l w w' : List ℕ) → w' ≡ fill w (n * n) (n * n) (nearByte n i w) → Laid n i l w → Laid n i l w'
+laid-near n i l w w' e k =
+    laid-kept n i l l w w' (ap (drop (6 * (n * n))) e ∙ drop-fill-at (6 * (n * n)) w (n * n) (n * n) (nearByte n i w) (omega arith)) (ap length e ∙ length-fill w (n * n) (n * n) (nearByte n i w)) (λ j h. refl) k
 
 -- number_level, from what its parts leave
 module _ (n i : ℕ) (l w w' w'' : List ℕ) (ready : Ready n i l w) (near : w' ≡ fill w (n * n) (n * n) (nearByte n i w)) (clear : w'' ≡ fill w' (4 * (n * n)) (2 * (n * n)) (λ _. 0)) where
   near-w' : (Near n i w') × (Kept n w w')
   near-w' = near-kept n i w w' near (ready .area-room)
 
-  pub level-ready : (Ready n i l w'') × (Near n i w'') × (Chains (isIn n i w'') (alike n i l w'') (bucketOf n i l w'') n w'' 0)
-  level-ready =
+  pub level-ready : Laid n i l w → (Ready n i l w'') × (Near n i w'') × (Chains (isIn n i w'') (alike n i l w'') (bucketOf n i l w'') n w'' 0) × (Laid n i l w'')
+  level-ready laid =
       let k = near-w' .1 in
       let s = clear-steady n w' w'' clear in
       let r = ready-area n i l w w' ready (k .marks) (k .size) in (
         ready-area n i l w' w'' r (steady-marks n w' w'' s) (s .size),
         near-steady n i w' w'' (near-w' .0) s,
         chains-start (isIn n i w'') (alike n i l w'') (bucketOf n i l w'') n w'' (heads-clear n w' w'' clear (r .area-room)),
+        laid-steady n i l w' w'' s (laid-near n i l w w' near laid),
       )
 
   pub level-numbered : (r : ℕ) (l' v : List ℕ) → Positioned n i l w'' r l' v → Numbered n i l w r l' v
   level-numbered r l' v d =
       let k = near-w' .1 in
       let s = steady-trans n w' w'' v (clear-steady n w' w'' clear) (d .steady) in
-      let m = steady-marks n w' v s in
       record {
         placed = placed-kept n i l w w'' r l' (steady-marks n w' w'' (clear-steady n w' w'' clear) ∙ k .marks) (d .placed);
-        kept = record { marks = m ∙ k .marks; rest = s .rest ∙ k .rest; size = s .size ∙ k .size };
+        kept = record { marks = steady-marks n w' v s ∙ k .marks; rest = steady-rest n w' v s ∙ k .rest; size = s .size ∙ k .size };
       }
 
 -- a position is right by the marks, which stay

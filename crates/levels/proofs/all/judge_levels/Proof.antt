@@ -23,11 +23,11 @@ abbrev μ-loop : tie.MeasureT-loop
 loop-holds : tie.Need-loop-holds Inv-loop μ-loop
 loop-holds c = (omega arith, right-start _ _ _, kept-refl _ _)
 
-add-check-level : tie.Need-add-check-level Inv-loop μ-loop
-add-check-level c = omega arith
+add-level-fault : tie.Need-add-level-fault Inv-loop μ-loop
+add-level-fault c = omega arith
 
-check-level-requires : tie.Need-check-level-requires Inv-loop μ-loop
-check-level-requires c κs =
+level-fault-requires : tie.Need-level-fault-requires Inv-loop μ-loop
+level-fault-requires c κs =
     let l = c .before .before in
     let a = l .before .before .before in
     let i = l .loop .inv in
@@ -49,14 +49,14 @@ same-length : tie.Need-same-length Inv-loop μ-loop
 same-length c =
     let s = c .before .before .before in
     let l = s .before .before .before in
-    kept-trans _ _ _ _ (l .loop .inv .2) (s .check-level .ensures .kept) .size
+    kept-trans _ _ _ _ (l .loop .inv .2) (s .level-fault .ensures .kept) .size
 
 returns : tie.Need-returns Inv-loop μ-loop
 returns c =
     let s = c .before .before .before in
     let t = s .before .before in
     let i = t .before .loop .inv in
-    judged-fault _ _ _ _ _ _ _ _ _ (i .1) (add-one _) (t .loop-test .taken) (i .2) (s .check-level .ensures) (c .if1 .taken)
+    judged-fault _ _ _ _ _ _ _ _ _ (i .1) (add-one _) (t .loop-test .taken) (i .2) (s .level-fault .ensures) (c .if1 .taken)
 
 add-i : tie.Need-add-i Inv-loop μ-loop
 add-i c = omega arith
@@ -69,8 +69,8 @@ loop-again c =
     let s = c .before .before .before in
     let i = s .before .before .before .loop .inv in (
       omega arith,
-      right-more _ _ _ _ (i .1) _ _ (add-one _) (fault-kept _ _ _ _ _ _ _ (i .2) (s .check-level .ensures)) (c .if1 .left),
-      kept-trans _ _ _ _ (i .2) (s .check-level .ensures .kept),
+      right-more _ _ _ _ (i .1) _ _ (add-one _) (fault-kept _ _ _ _ _ _ _ (i .2) (s .level-fault .ensures)) (c .if1 .left),
+      kept-trans _ _ _ _ (i .2) (s .level-fault .ensures .kept),
     )
 
 same-length-2 : tie.Need-same-length-2 Inv-loop μ-loop
@@ -89,8 +89,8 @@ judge-levels-spec =
     Inv-loop
     μ-loop
     loop-holds
-    add-check-level
-    check-level-requires
+    add-level-fault
+    level-fault-requires
     mul-if1
     add-t11
     cast-t12

@@ -10,7 +10,7 @@ use Rattle.rules.specs.Outcomes.{front}
 use Rattle.levels.specs.Marks.{markedGraph}
 use Rattle.levels.specs.Needs.{Kept}
 use Rattle.levels.proofs.Laws.Areas.{ready-area, placed-kept}
-use Rattle.levels.proofs.Laws.Stack.{kept-refl, kept-trans, front-start, count-start, front-size, front-ready, front-written, front-count}
+use Rattle.levels.proofs.Laws.Stack.{kept-refl, kept-trans, front-start, count-start, front-size, front-ready, front-topped, front-written, front-count}
 use Rattle.levels.proofs.all.number_levels.Statement.{statement}
 use Rattle.levels.proofs.all.number_levels.Tie as tie
 
@@ -23,15 +23,17 @@ abbrev μ-loop : tie.MeasureT-loop
 loop-holds : tie.Need-loop-holds Inv-loop μ-loop
 loop-holds c = (omega arith, front-start _ _ _, count-start (c .before .before .args .n) _ (c .before .before .args .levels .now), kept-refl _ _)
 
-add-number-level : tie.Need-add-number-level Inv-loop μ-loop
-add-number-level c = omega arith
+add-next-level : tie.Need-add-next-level Inv-loop μ-loop
+add-next-level c = omega arith
 
-number-level-requires : tie.Need-number-level-requires Inv-loop μ-loop
-number-level-requires c κs =
+next-level-requires : tie.Need-next-level-requires Inv-loop μ-loop
+next-level-requires c κs =
     let l = c .before .before .before in
     let a = l .before .before .before in
-    let i = l .loop .inv in
-    ready-area _ _ _ _ _ (front-ready _ _ _ _ _ _ _ (a .pre) (c .before .before .loop-test .taken) (add-one _) (i .1)) (i .3 .marks) (i .3 .size)
+    let i = l .loop .inv in (
+      ready-area _ _ _ _ _ (front-ready _ _ _ _ _ _ _ (a .pre) (c .before .before .loop-test .taken) (add-one _) (i .1)) (i .3 .marks) (i .3 .size),
+      front-topped _ _ _ _ _ _ _ _ (add-one _) (i .1) (i .2) (i .3 .marks),
+    )
 
 add-i : tie.Need-add-i Inv-loop μ-loop
 add-i c = omega arith
@@ -44,7 +46,7 @@ loop-again c =
     let s = c .before .before .before .before in
     let l = s .before .before .before .before in
     let i = l .loop .inv in
-    let d = s .number-level .ensures in
+    let d = s .next-level .ensures in
     let p = placed-kept _ _ _ _ _ _ _ (i .3 .marks) (d .placed) in (
       omega arith,
       front-written _ _ _ _ _ _ _ _ (add-one _) (i .1) p,
@@ -74,8 +76,8 @@ number-levels-spec =
     Inv-loop
     μ-loop
     loop-holds
-    add-number-level
-    number-level-requires
+    add-next-level
+    next-level-requires
     add-i
     loop-less
     loop-again

@@ -1,6 +1,7 @@
--- The marks there and back and the hash give `bucketOf` by its definition; a remainder by n·n is below n·n.
+-- The marks there and back and the hashes of the list give `bucketOf` by its definition; a remainder by n·n is below n·n.
 use Prim.Native.Nat.{ℕ, _<_}
 use lib.ListN.{getD}
+use native.Mathlib.Nat.{mod-lt}
 use native.Mathlib.Omega.{arith}
 use Rattle.rules.proofs.Laws.Places.{some-items, row-lt, column-lt}
 use Rattle.levels.proofs.Laws.Signature.{bucket-is}
@@ -9,15 +10,15 @@ use Rattle.levels.proofs.chains.bucket.Statement.{statement}
 use Rattle.levels.proofs.chains.bucket.Tie as tie
 
 div-v : tie.Need-div-v
-div-v c = some-items _ _ (c .before .before .pre .1)
+div-v c = some-items _ _ (c .before .before .pre .2)
 
 rem-u : tie.Need-rem-u
-rem-u c = some-items _ _ (c .before .before .pre .1)
+rem-u c = some-items _ _ (c .before .before .pre .2)
 
 mark-at-requires : tie.Need-mark-at-requires
 mark-at-requires c κs =
     let a = c .before .before in
-    (record { room = omega arith }, record { first = row-lt _ _ (a .pre .1); second = column-lt _ _ (a .pre .1) })
+    (record { room = omega arith }, record { first = row-lt _ _ (a .pre .2); second = column-lt _ _ (a .pre .2) })
 
 cast-there : tie.Need-cast-there
 cast-there c = search needs
@@ -25,7 +26,7 @@ cast-there c = search needs
 mark-at-requires-2 : tie.Need-mark-at-requires-2
 mark-at-requires-2 c κs =
     let a = c .before .before .before in
-    (record { room = omega arith }, record { first = column-lt _ _ (a .pre .1); second = row-lt _ _ (a .pre .1) })
+    (record { room = omega arith }, record { first = column-lt _ _ (a .pre .2); second = row-lt _ _ (a .pre .2) })
 
 cast-back : tie.Need-cast-back
 cast-back c = search needs
@@ -53,8 +54,10 @@ returns c =
     let m = c .before in
     let s = m .before .before in
     let a = s .before .before in
-    let bytes : (q : ℕ) → getD (a .args .area .now) q 0 < 256 = λ q. omega (arith, s .shared-slice-known2 .given q) in
-    bucket-is _ _ _ _ _ (a .pre .1) bytes (m .before .mark-at .ensures .0) (m .mark-at2 .ensures .0) (c .most-at .ensures .0)
+    let bytes : (q : ℕ) → getD (a .args .area .now) q 0 < 256 = λ q. omega (arith, s .before .shared-slice-known .given q) in (
+      λ i levels h. bucket-is _ _ _ _ _ (a .pre .2) bytes (m .before .mark-at .ensures .0) (m .mark-at2 .ensures .0) (c .most-at .ensures .0 _ i _ levels h) .0,
+      mod-lt _ (omega (arith, a .pre .2)),
+    )
 
 pub bucket-spec : {M : Type 1} → statement M
 bucket-spec =

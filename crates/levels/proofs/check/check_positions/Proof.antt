@@ -15,7 +15,7 @@ use Rattle.levels.proofs.Laws.Areas.{ready-area}
 use Rattle.levels.proofs.Laws.Tables.{base-next, place-get, level-length}
 use Rattle.levels.proofs.Laws.Right.{isFault, fault-yes, fault-no, fault-found, fault-none, right-small, max-take}
 use Rattle.levels.proofs.Laws.Taken.{steady-refl, steady-trans}
-use Rattle.levels.proofs.Laws.Turn.{steady-marks, near-steady, ok-kept}
+use Rattle.levels.proofs.Laws.Turn.{steady-marks, near-steady, laid-steady, ok-kept}
 use Rattle.levels.proofs.Laws.Firsts.{firsts-start, note-steady, note-firsts}
 use Rattle.levels.proofs.check.check_positions.Statement.{statement}
 use Rattle.levels.proofs.check.check_positions.Tie as tie
@@ -53,6 +53,7 @@ is-right-requires c κs =
       near-steady _ _ _ _ (a .pre .1) (i .5),
       record { inside = c .before .loop-test .taken; largest = i .2; small = i .1 },
       i .4,
+      laid-steady _ _ _ _ _ (i .5) (a .pre .2),
     )
 
 same-length : tie.Need-same-length Inv-loop μ-loop

@@ -94,32 +94,13 @@ is-first c =
     first-read _ _ _ _ _ (a .pre .3) _ (e2 .if2 .left) (c .before .if3 .left) (c .word-at .ensures .0)
     ∙ ap (firstOf (a .args .n * a .args .n) (levelOf (a .args .n) (a .args .levels .now) (a .args .i))) (sym (place-get _ _ _ _ (a .pre .0 .some) (a .pre .2 .inside)))
 
-div-agree : tie.Need-div-agree
-div-agree c = some-items _ _ (c .before .before .before .before .before .before .before .before .pre .2 .inside)
-
-rem-agree : tie.Need-rem-agree
-rem-agree c = some-items _ _ (c .before .before .before .before .before .before .before .before .pre .2 .inside)
-
-div-agree-2 : tie.Need-div-agree-2
-div-agree-2 c = some-items _ _ (c .before .before .before .before .before .before .before .before .pre .2 .inside)
-
-rem-agree-2 : tie.Need-rem-agree-2
-rem-agree-2 c = some-items _ _ (c .before .before .before .before .before .before .before .before .pre .2 .inside)
-
-agree-requires : tie.Need-agree-requires
-agree-requires c κs =
-    let a = c .before .before .before .before .before .before .before .before in
-    let h : c .word-at .result < a .args .n * a .args .n =
-    rw (is-first c) (first-of-lt (a .args .n * a .args .n) (levelOf (a .args .n) (a .args .levels .now) (a .args .i)) (a .args .p) (a .pre .2 .inside)) in
-    let q1 = row-lt _ _ h in
-    let q2 = column-lt _ _ h in
-    let p1 = row-lt _ _ (a .pre .2 .inside) in
-    let p2 = column-lt _ _ (a .pre .2 .inside) in (
-      a .pre .0 .few,
-      record { some = a .pre .0 .some; room = a .pre .0 .room },
-      record { room = omega arith },
-      record { first = omega arith; second = omega arith },
-      record { first = omega arith; second = omega arith },
+agree-at-requires : tie.Need-agree-at-requires
+agree-at-requires c κs =
+    let a = c .before .before .before .before .before .before .before .before in (
+      a .pre .0,
+      a .pre .2 .inside,
+      rw (is-first c) (first-of-lt (a .args .n * a .args .n) (levelOf (a .args .n) (a .args .levels .now) (a .args .i)) (a .args .p) (a .pre .2 .inside)),
+      a .pre .4,
     )
 
 returns-4 : tie.Need-returns-4
@@ -132,7 +113,7 @@ returns-4 c =
     let T = levelOf (a .args .n) (a .args .levels .now) in
     right-agree _ _ _ _ _ (sym (place-get _ _ _ _ (a .pre .0 .some) (a .pre .2 .inside))) (byte-set _ (a .pre .1 .byte-at (a .args .p) (a .pre .2 .inside)) (e .if1 .left))
     (e2 .if2 .left) (omega (arith, f .before .if3 .left, a .pre .2 .largest))
-    (c .agree .ensures ∙ at-is _ _ _ _ _ _ ∙ ap (agreeAt rule g (a .args .i) T (a .args .p)) (is-first f))
+    (c .agree-at .ensures ∙ ap (agreeAt rule g (a .args .i) T (a .args .p)) (is-first f))
 
 pub is-right-spec : {M : Type 1} → statement M
 is-right-spec =
@@ -158,9 +139,5 @@ is-right-spec =
     mul-word-at-3
     add-word-at
     word-at-requires
-    div-agree
-    rem-agree
-    div-agree-2
-    rem-agree-2
-    agree-requires
+    agree-at-requires
     returns-4)

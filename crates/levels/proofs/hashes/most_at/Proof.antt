@@ -1,23 +1,28 @@
--- The two ways of the test: 0 by definition where the level has no split, else what `split_most` answers.
+-- A list of midpoints has their four largest hashes (`listed-most`); each is below 2^32, so the sum fits.
 use native.Mathlib.Omega.{arith}
 use borrow.Author.Needs.{needs}
-use Rattle.levels.proofs.Laws.Signature.{most-none, most-some}
+use Rattle.levels.proofs.Laws.Midpoints.{listed-most}
 use Rattle.levels.proofs.hashes.most_at.Statement.{statement}
 use Rattle.levels.proofs.hashes.most_at.Tie as tie
 
-splits-requires : tie.Need-splits-requires
-splits-requires c κs = search needs
+most-of-requires : tie.Need-most-of-requires
+most-of-requires c κs = search needs
+
+add-result : tie.Need-add-result
+add-result c = search needs
+
+add-result-2 : tie.Need-add-result-2
+add-result-2 c = search needs
+
+add-result-3 : tie.Need-add-result-3
+add-result-3 c = search needs
 
 returns : tie.Need-returns
-returns c = (most-none _ _ _ _ (c .before .splits .ensures) (c .if1 .taken), omega arith)
-
-split-most-requires : tie.Need-split-most-requires
-split-most-requires c κs = search needs
-
-returns-2 : tie.Need-returns-2
-returns-2 c =
-    let e = c .before in
-    (most-some _ _ _ _ (e .before .splits .ensures) (e .if1 .left) (c .split-most .ensures .0), c .split-most .ensures .1)
+returns c =
+    let m = c .before .before .before in (
+      λ n i p levels h. listed-most n i levels p _ _ h (m .most-of .ensures .0),
+      omega (arith, m .most-of .ensures .1 .none, m .most-of .ensures .1 .quarter, m .most-of .ensures .1 .half, m .most-of .ensures .1 .most),
+    )
 
 pub most-at-spec : {M : Type 1} → statement M
-most-at-spec = tie.close (tie.spec splits-requires returns split-most-requires returns-2)
+most-at-spec = tie.close (tie.spec most-of-requires add-result add-result-2 add-result-3 returns)

@@ -13,7 +13,7 @@ use Rattle.levels.specs.Needs.{Steady, isIn, alike, base}
 use Rattle.levels.proofs.Laws.Tables.{base-next}
 use Rattle.levels.proofs.Laws.Level.{ends, same-size, begun, write-next, max-next, next-small}
 use Rattle.levels.proofs.Laws.Taken.{steady-refl, steady-trans}
-use Rattle.levels.proofs.Laws.Turn.{near-steady, turn-ready, turn-begun, turn-chains, turn-back, turn-number}
+use Rattle.levels.proofs.Laws.Turn.{near-steady, turn-ready, turn-laid, turn-begun, turn-chains, turn-back, turn-number}
 use Rattle.levels.proofs.number.number_positions.Statement.{statement}
 use Rattle.levels.proofs.number.number_positions.Tie as tie
 
@@ -59,6 +59,7 @@ next-number-requires c κs =
       turn-begun _ _ _ _ r _ _ (i .3) (i .0) _ (i .5) _ (begun _ _ _ _ r _ _ (i .3) (i .0) _ (i .2) (i .1)),
       c .before .before .loop-test .taken,
       turn-chains _ _ _ _ r _ _ (i .3) (i .0) _ (i .5) _ _ (i .4),
+      turn-laid _ _ _ _ r _ _ (i .3) (i .0) _ (i .5) (a .pre .3),
     )
 
 add-levels : tie.Need-add-levels Inv-loop μ-loop

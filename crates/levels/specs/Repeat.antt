@@ -1,0 +1,17 @@
+-- Levels that repeat: while rule C looks at the level below only, a level is a function of it.
+use Prim.Native.Nat.{ℕ, _*_, _-_, _<_}
+use mathlib.Core.Path.{_≡_}
+use mathlib.Core.List.{List}
+use Rattle.rules.specs.Rule.{rule}
+use Rattle.rules.specs.Levels.{levelOf, levelOver, maxOf}
+use Rattle.levels.specs.Marks.{markedGraph}
+
+-- there are two levels below level i, and they are the same
+pub record Repeats (n i : ℕ) (levels : List ℕ) : Type 0 where
+  pub deep : 2 < i
+  pub same : levelOf n levels (i - 1) ≡ levelOf n levels (i - 1 - 1)
+
+-- the level below level i is numbered over those below it, and top is its largest number
+pub record Topped (n i : ℕ) (levels area : List ℕ) (top : ℕ) : Type 0 where
+  pub numbers : 1 < i → levelOf n levels (i - 1) ≡ levelOver rule (markedGraph n area) (i - 1) levels
+  pub largest : top ≡ maxOf (levelOf n levels (i - 1))
