@@ -1,4 +1,4 @@
--- A stored answer: what it says depends on how much is lent, not on what stands there.
+-- A stored answer: the code's call is the program's, and its text is the machine's.
 use Prim.Native.Nat.{ℕ, zero, suc, _+_, _-_, _*_, _≤_, _<_}
 use mathlib.Core.Path.{_≡_, refl, sym, ap, _∙_}
 use mathlib.Core.List.{List}
@@ -8,7 +8,7 @@ use native.Mathlib.Omega.{arith}
 use borrow.Author.Tests.{leb-true}
 use lib.Dec.{leb}
 use lib.ListN.{length, take, drop, replicate, length-replicate}
-use lib.Seq.{sets, take-at, ext-getD, getD-take, length-take-le}
+use lib.Seq.{sets, ext-getD, getD-take, length-take-le}
 use Rattle.rules.specs.declared.Refusal.{Refusal}
 use Rattle.rules.specs.declared.Refusal.the-variants.{AnswerRoom}
 use Rattle.rules.specs.declared.Answered.{Answered}
@@ -17,7 +17,7 @@ use Rattle.rules.specs.Finite.{tableBelow}
 use Rattle.rules.specs.Levels.{levelOf}
 use Rattle.rules.specs.Verdict.{Verdict, good, refuse, room}
 use Rattle.rules.specs.Writing.{fill}
-use Rattle.rules.specs.Outcomes.{front, answerAfter, StoredCall, storedRefusal, storedList, stored}
+use Rattle.rules.specs.Outcomes.{answerAfter, StoredCall, storedRefusal, storedList, stored}
 use Rattle.parts.proofs.Laws.Parts.{take-from}
 use Rattle.rules.proofs.Laws.Listing.{table-length, table-at}
 use Rattle.rules.proofs.Laws.Writing.{length-fill, getD-fill-front}
@@ -31,32 +31,19 @@ use Rattle.machine.proofs.Laws.Texts.{refusal-length, list-length}
 refused-answers : {C : Type 0} {r : Refusal} {m : ℕ} → Refused r ≡ Answers m → C
 refused-answers e = let z : _≡_ {A = ℕ} 0 1 = cc in absurd (omega arith)
 
--- an answer of m positions is the list, and there is room for it
-pub record Listed (list answers after : List ℕ) (m : ℕ) : Type 0 where
-  pub fits : m ≤ length answers
-  pub cut : take m after ≡ list
+-- an answer of m positions has room for them
+fits-by : (n room m : ℕ) (b : Bool) → leb n room ≡ b → cond b (Answers n) (Refused (AnswerRoom n)) ≡ Answers m → m ≤ room
+fits-by n room m true t e = let z : n ≡ m = cc in omega (arith, leb-true n room t)
+fits-by n room m false t e = refused-answers e
 
-listed-by : (items : ℕ) (list answers area : List ℕ) (m : ℕ) (b : Bool) → leb (length list) (length answers) ≡ b
-    → cond b (Answers (length list)) (Refused (AnswerRoom (length list))) ≡ Answers m → Listed list answers (cond b (front list answers) answers) m
-unfolding front
-listed-by items list answers area m true t e =
-    let z : length list ≡ m = cc in
-    record { fits = omega (arith, leb-true (length list) (length answers) t); cut = take-at list (drop (length list) answers) m z }
-listed-by items list answers area m false t e = refused-answers e
-
-listed-after : (items : ℕ) (list answers area : List ℕ) (m : ℕ) (v : Verdict) → answerAfter items list answers area v .result ≡ Answers m
-    → Listed list answers (answerAfter items list answers area v .answers) m
+fits-after : (items : ℕ) (list answers area : List ℕ) (m : ℕ) (v : Verdict) → answerAfter items list answers area v .result ≡ Answers m → m ≤ length answers
 unfolding answerAfter
-listed-after items list answers area m good e = listed-by items list answers area m (leb (length list) (length answers)) refl e
-listed-after items list answers area m (refuse r) e = refused-answers e
+fits-after items list answers area m good e = fits-by (length list) (length answers) m (leb (length list) (length answers)) refl e
+fits-after items list answers area m (refuse r) e = refused-answers e
 
-pub listed : (c : StoredCall) (m : ℕ) → stored c .result ≡ Answers m → Listed (storedList c) (c .answers) (stored c .answers) m
+answers-fit : (c : StoredCall) (m : ℕ) → stored c .result ≡ Answers m → m ≤ length (c .answers)
 unfolding stored
-listed c m e = listed-after (c .items) (storedList c) (c .answers) (c .area) m (storedRefusal c) e
-
-pub room-same : (a b : List ℕ) (n : ℕ) → length a ≡ length b → room a n ≡ room b n
-unfolding room
-room-same a b n e = rw e
+answers-fit c m e = fits-after (c .items) (storedList c) (c .answers) (c .area) m (storedRefusal c) e
 
 -- the code's call is the program's: its text, and how long its answer is
 module _ (items labels : ℕ) (table entries tokens : List ℕ) where
@@ -83,7 +70,7 @@ module _ (items labels : ℕ) (table entries tokens : List ℕ) where
   text-refused r result e f = ap (answerBy (stored call .answers)) (sym f ∙ e)
 
   pub many-fits : (m : ℕ) (result : Answered) → result ≡ stored call .result → result ≡ Answers m → m ≤ 1024
-  many-fits m result r e = omega (arith, listed call m (sym r ∙ e) .fits, length-replicate {A = ℕ} 1024 0)
+  many-fits m result r e = omega (arith, answers-fit call m (sym r ∙ e), length-replicate {A = ℕ} 1024 0)
 
 -- the table of level k as a part of all levels
 pub table-part : (n k : ℕ) (levels : List ℕ) → 0 < k

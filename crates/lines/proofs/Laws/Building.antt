@@ -15,7 +15,7 @@ use Rattle.rules.specs.declared.Built.the-variants.{Tables, Refused}
 use Rattle.rules.specs.Graph.{graphOf}
 use Rattle.rules.specs.Rule.{rule}
 use Rattle.rules.specs.Levels.{maxOf, levelOf, builtLevels}
-use Rattle.rules.specs.Verdict.{Verdict, good, refuse}
+use Rattle.rules.specs.Verdict.{Verdict, good, refuse, room}
 use Rattle.rules.specs.Accept.{Index, topOf, builtIndex}
 use Rattle.rules.specs.Promises.{Builds}
 use Rattle.rules.specs.Calls.{buildCall as lentCall}
@@ -31,7 +31,6 @@ use Rattle.machine.specs.Machine.{answering, stops, buildCall, builtBy, builds}
 use Rattle.machine.specs.Standing.{stageBy, stageOf, Fits, Comes}
 use Rattle.lines.specs.Lent.{callOf, Made}
 use Rattle.machine.proofs.Laws.Texts.{built-length, refusal-length}
-use Rattle.lines.proofs.Laws.Asking.{room-same}
 
 refused-tables : {C : Type 0} {r : Refusal} {a b m : ℕ} → Refused r ≡ Tables a b m → C
 refused-tables e = let z : _≡_ {A = ℕ} 0 1 = cc in absurd (omega arith)
@@ -104,6 +103,10 @@ builds-refused items labels k edges r e = rw e
 pub stop-few : (r : Refusal) (m : Moved) (edges levels entries old new : List ℕ) → Comes (stops r) m edges levels entries old new → m .many ≤ 15
 unfolding stops
 stop-few r m edges levels entries old new h = omega (arith, h .many, refusal-length r)
+
+room-same : (a b : List ℕ) (n : ℕ) → length a ≡ length b → room a n ≡ room b n
+unfolding room
+room-same a b n e = rw e
 
 -- what build ends with, of which the program keeps the result, the levels and the entries
 pub made-by : (p : Progress) (edges levels entries : List ℕ) (e : BuildEnd)
