@@ -142,11 +142,11 @@ fn put_places(
     let mut u = start;
     while u < end {
         let p = row + u;
-        if area[firsts + p] == 0 {
+        if !has_bit(area[from + p], l) {
             u += 1;
             continue;
         }
-        if !has_bit(area[from + p], l) {
+        if area[firsts + p] == 0 {
             u += 1;
             continue;
         }
