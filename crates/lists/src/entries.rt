@@ -1,5 +1,6 @@
 // The entries of one relation: code and class for each class whose first pair it holds. They are counted, written where there is room, and compared with a stored list, in one go.
 
+use relations::blocks::end_of;
 use relations::blocks::has_bit;
 use relations::blocks::labels_in;
 use relations::blocks::lacks;
@@ -105,17 +106,6 @@ fn count_row(area: &[u8], from: usize, firsts: usize, l: usize, n: usize) -> usi
         u += 1;
     }
     some as usize
-}
-
-// Where the sixteen places from u on end in a row of n.
-fn end_of(u: usize, n: usize) -> usize
-    requires { ⌜ (u < n) × (n ≤ 128) ⌝ }
-    ensures { λ r. ⌜ (u < r) × (r ≤ n) ⌝ }
-{
-    if n < u + 16 {
-        return n;
-    }
-    u + 16
 }
 
 // The entries of the places from `start` up to `end` in row v of the relation that bit l of the block at `from` holds, behind those of the places before.
