@@ -1,5 +1,6 @@
 // The entries of one relation: code and class for each class whose first pair it holds. They are counted, written where there is room, and compared with a stored list, in one go.
 
+use relations::blocks::end_of;
 use relations::blocks::has_bit;
 use relations::blocks::labels_in;
 use relations::blocks::lacks;
@@ -107,17 +108,6 @@ fn count_row(area: &[u8], from: usize, firsts: usize, l: usize, n: usize) -> usi
     some as usize
 }
 
-// Where the sixteen places from u on end in a row of n.
-fn end_of(u: usize, n: usize) -> usize
-    requires { ⌜ (u < n) × (n ≤ 128) ⌝ }
-    ensures { λ r. ⌜ (u < r) × (r ≤ n) ⌝ }
-{
-    if n < u + 16 {
-        return n;
-    }
-    u + 16
-}
-
 // The entries of the places from `start` up to `end` in row v of the relation that bit l of the block at `from` holds, behind those of the places before.
 fn put_places(
     table: &[u32],
@@ -142,11 +132,11 @@ fn put_places(
     let mut u = start;
     while u < end {
         let p = row + u;
-        if area[firsts + p] == 0 {
+        if !has_bit(area[from + p], l) {
             u += 1;
             continue;
         }
-        if !has_bit(area[from + p], l) {
+        if area[firsts + p] == 0 {
             u += 1;
             continue;
         }

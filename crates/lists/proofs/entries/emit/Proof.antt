@@ -3,10 +3,10 @@ use Prim.Native.Nat.{ℕ, _+_, _*_, _-_, _≤_}
 use mathlib.Core.Path.{_≡_, refl, sym, ap, _∙_}
 use mathlib.Core.Bool.{Bool}
 use native.Mathlib.Omega.{arith}
-use native.Mathlib.Numerals.{add-one}
 use borrow.Author.Tests.{not-true}
 use lib.ListN.{length}
 use Rattle.relations.specs.Relations.{Slot}
+use Rattle.relations.proofs.Laws.Joining.{next-row}
 use Rattle.rules.proofs.Laws.Places.{row-fits, square-le}
 use Rattle.lists.specs.Entries.{Went, Firsts, entriesRows}
 use Rattle.lists.proofs.Laws.Went as went
@@ -24,7 +24,7 @@ row : (c : tie.In-loop Inv-loop μ-loop) → c .before .loop .v * c .before .bef
 row c = row-fits (c .before .before .before .before .before .before .args .n) (c .loop-test .taken)
 
 next : (c : tie.In-loop Inv-loop μ-loop) → (c .before .loop .v + 1) * c .before .before .before .before .before .before .args .n ≡ c .before .loop .v * c .before .before .before .before .before .before .args .n + c .before .before .before .before .before .before .args .n
-next c = rw (add-one (c .before .loop .v)) (native.Mathlib.Nat.suc-mul (c .before .loop .v) (c .before .before .before .before .before .before .args .n))
+next c = next-row (c .before .loop .v) (c .before .before .before .before .before .before .args .n)
 
 loop-holds : tie.Need-loop-holds Inv-loop μ-loop
 loop-holds c = (omega arith, omega arith, refl, λ J s f. went.went-as _ _ _ _ _ _ _ _ _ (emitting.rows-none _ _ J _) (went.went-none _ _ _ _))

@@ -1,4 +1,4 @@
--- The invariant: the entries of the places up to u have gone by, behind those before. A later position and a missing bit add none.
+-- The invariant: the entries of the places up to u have gone by, behind those before. A missing bit and a later position add none.
 use Prim.Native.Nat.{ℕ, _+_, _*_, _-_, _≤_, _<_}
 use mathlib.Core.Path.{_≡_, refl, sym, ap, _∙_}
 use mathlib.Core.Bool.{Bool}
@@ -44,11 +44,14 @@ loop-holds c = (omega arith, c .before .before .before .before .pre .1, omega ar
 add-p : tie.Need-add-p Inv-loop μ-loop
 add-p c = omega (arith, cell (c), square-le (c .before .before .before .before .before .before .pre .3 .small))
 
-add-if1 : tie.Need-add-if1 Inv-loop μ-loop
-add-if1 c = omega (arith, cell (c), square-le (c .before .before .before .before .before .before .pre .3 .small))
+add-has-bit : tie.Need-add-has-bit Inv-loop μ-loop
+add-has-bit c = omega (arith, cell c, c .before .before .before .before .before .before .pre .3 .room)
 
-shared-slice-read-if1 : tie.Need-shared-slice-read-if1 Inv-loop μ-loop
-shared-slice-read-if1 c = omega (arith, cell (c .before), c .before .before .before .before .before .before .before .pre .3 .area)
+shared-slice-read-has-bit : tie.Need-shared-slice-read-has-bit Inv-loop μ-loop
+shared-slice-read-has-bit c = omega (arith, cell (c .before), c .before .before .before .before .before .before .before .pre .3 .room)
+
+has-bit-requires : tie.Need-has-bit-requires Inv-loop μ-loop
+has-bit-requires c κs = c .before .before .before .before .before .before .before .pre .3 .label
 
 add-u : tie.Need-add-u Inv-loop μ-loop
 add-u c = omega arith
@@ -60,22 +63,20 @@ loop-again : tie.Need-loop-again Inv-loop μ-loop
 loop-again c = (
   omega arith,
   omega arith,
-  omega (arith, c .before .before .before .loop .inv .2),
-  c .before .before .before .loop .inv .3,
+  omega (arith, c .before .before .before .before .loop .inv .2),
+  c .before .before .before .before .loop .inv .3,
   λ J a m o s f w.
       went.went-as _ _ _ _ _ _ _ _ _
-      (emitting.row-later (c .before .before .before .before .before .before .before .before .args .n) (c .before .before .before .before .before .before .before .before .args .table .now) J (c .before .before .before .before .before .before .before .before .args .code) (c .before .before .before .before .before .before .before .before .args .v) (c .before .before .before .before .before .before .before .before .args .area .now) f (c .before .before .before .loop .u) (c .before .before .before .before .before .before .before .before .pre .0) (inside (c .before .before)) (c .if1 .taken))
-      (c .before .before .before .loop .inv .4 J a m o s f w),
+      (emitting.row-without (c .before .before .before .before .before .before .before .before .before .args .n) (c .before .before .before .before .before .before .before .before .before .args .table .now) J (c .before .before .before .before .before .before .before .before .before .args .code) (c .before .before .before .before .before .before .before .before .before .args .v) (c .before .before .before .before .before .before .before .before .before .args .area .now) f (c .before .before .before .before .loop .u) (c .before .before .before .before .before .before .before .before .before .pre .0) (inside (c .before .before .before)) (c .before .before .before .before .before .before .before .before .before .args .from) (c .before .before .before .before .before .before .before .before .before .args .l) s
+      (sym (c .before .has-bit .ensures) ∙ not-true _ (c .if1 .taken)))
+      (c .before .before .before .before .loop .inv .4 J a m o s f w),
 )
 
-add-has-bit : tie.Need-add-has-bit Inv-loop μ-loop
-add-has-bit c = omega (arith, cell (c .before .before), c .before .before .before .before .before .before .before .before .pre .3 .room)
+add-if2 : tie.Need-add-if2 Inv-loop μ-loop
+add-if2 c = omega (arith, cell (c .before .before .before), square-le (c .before .before .before .before .before .before .before .before .before .pre .3 .small))
 
-shared-slice-read-has-bit : tie.Need-shared-slice-read-has-bit Inv-loop μ-loop
-shared-slice-read-has-bit c = omega (arith, cell (c .before .before .before), c .before .before .before .before .before .before .before .before .before .pre .3 .room)
-
-has-bit-requires : tie.Need-has-bit-requires Inv-loop μ-loop
-has-bit-requires c κs = c .before .before .before .before .before .before .before .before .before .pre .3 .label
+shared-slice-read-if2 : tie.Need-shared-slice-read-if2 Inv-loop μ-loop
+shared-slice-read-if2 c = omega (arith, cell (c .before .before .before .before), c .before .before .before .before .before .before .before .before .before .before .pre .3 .area)
 
 add-u-2 : tie.Need-add-u-2 Inv-loop μ-loop
 add-u-2 c = omega arith
@@ -91,8 +92,7 @@ loop-again-2 c = (
   c .before .before .before .before .before .before .loop .inv .3,
   λ J a m o s f w.
       went.went-as _ _ _ _ _ _ _ _ _
-      (emitting.row-without (c .before .before .before .before .before .before .before .before .before .before .before .args .n) (c .before .before .before .before .before .before .before .before .before .before .before .args .table .now) J (c .before .before .before .before .before .before .before .before .before .before .before .args .code) (c .before .before .before .before .before .before .before .before .before .before .before .args .v) (c .before .before .before .before .before .before .before .before .before .before .before .args .area .now) f (c .before .before .before .before .before .before .loop .u) (c .before .before .before .before .before .before .before .before .before .before .before .pre .0) (inside (c .before .before .before .before .before)) (c .before .before .before .before .before .before .before .before .before .before .before .args .from) (c .before .before .before .before .before .before .before .before .before .before .before .args .l) s
-      (sym (c .before .has-bit .ensures) ∙ not-true _ (c .if2 .taken)))
+      (emitting.row-later (c .before .before .before .before .before .before .before .before .before .before .before .args .n) (c .before .before .before .before .before .before .before .before .before .before .before .args .table .now) J (c .before .before .before .before .before .before .before .before .before .before .before .args .code) (c .before .before .before .before .before .before .before .before .before .before .before .args .v) (c .before .before .before .before .before .before .before .before .before .before .before .args .area .now) f (c .before .before .before .before .before .before .loop .u) (c .before .before .before .before .before .before .before .before .before .before .before .pre .0) (inside (c .before .before .before .before .before)) (c .if2 .taken))
       (c .before .before .before .before .before .before .loop .inv .4 J a m o s f w),
 )
 
@@ -120,7 +120,7 @@ loop-again-3 c = (
   λ J a m o s f w.
       went.went-as _ _ _ _ _ _ _ _ _
       (emitting.row-with (c .before .before .before .before .before .before .before .before .before .before .before .before .before .before .before .before .args .n) (c .before .before .before .before .before .before .before .before .before .before .before .before .before .before .before .before .args .table .now) J (c .before .before .before .before .before .before .before .before .before .before .before .before .before .before .before .before .args .code) (c .before .before .before .before .before .before .before .before .before .before .before .before .before .before .before .before .args .v) (c .before .before .before .before .before .before .before .before .before .before .before .before .before .before .before .before .args .area .now) f (c .before .before .before .before .before .before .before .before .before .before .before .loop .u) (c .before .before .before .before .before .before .before .before .before .before .before .before .before .before .before .before .pre .0) (inside (c .before .before .before .before .before .before .before .before .before .before)) (c .before .before .before .before .before .before .before .before .before .before .before .before .before .before .before .before .args .from) (c .before .before .before .before .before .before .before .before .before .before .before .before .before .before .before .before .args .l) s
-      (c .before .before .before .before .before .before .before .before .if1 .left) (sym (c .before .before .before .before .before .before .has-bit .ensures) ∙ not-false _ (c .before .before .before .before .before .if2 .left)))
+      (c .before .before .before .before .before .if2 .left) (sym (c .before .before .before .before .before .before .before .before .has-bit .ensures) ∙ not-false _ (c .before .before .before .before .before .before .before .if1 .left)))
       (went.went-trans _ _ _ _ _ _ _ _ _ _ _ _ (c .before .before .before .before .before .before .before .before .before .before .before .loop .inv .4 J a m o s f w) (c .before .before .put .ensures .1)),
 )
 
@@ -145,14 +145,14 @@ put-places-spec =
     mul-firsts-2
     loop-holds
     add-p
-    add-if1
-    shared-slice-read-if1
-    add-u
-    loop-less
-    loop-again
     add-has-bit
     shared-slice-read-has-bit
     has-bit-requires
+    add-u
+    loop-less
+    loop-again
+    add-if2
+    shared-slice-read-if2
     add-u-2
     loop-less-2
     loop-again-2
