@@ -1,6 +1,6 @@
 -- Four cases: not connected, 0 though connected, a new number, an old one; the last reads its first position and tests agreement with it.
 use lib.ListN.{getD}
-use Prim.Native.Nat.{_*_}
+use Prim.Native.Nat.{_*_, _<_}
 use mathlib.Core.Path.{_≡_, sym, ap, _∙_}
 use native.Mathlib.Omega.{arith}
 use Rattle.rules.specs.Rule.{rule}
@@ -98,10 +98,12 @@ is-first c =
 agree-at-requires : tie.Need-agree-at-requires
 agree-at-requires c κs =
     let w = c .before in
-    let a = w .before .before .before .before .before .before .before .before .before in (
+    let a = w .before .before .before .before .before .before .before .before .before in
+    let h : w .word-at .result < a .args .n * a .args .n =
+    rw (is-first w) (first-of-lt (a .args .n * a .args .n) (levelOf (a .args .n) (a .args .levels .now) (a .args .i)) (a .args .p) (a .pre .2 .inside)) in (
       a .pre .0,
       a .pre .2 .inside,
-      rw (is-first w) (first-of-lt (a .args .n * a .args .n) (levelOf (a .args .n) (a .args .levels .now) (a .args .i)) (a .args .p) (a .pre .2 .inside)),
+      omega (arith, h, a .pre .2 .inside),
       a .pre .4,
       a .pre .5,
     )
