@@ -1,5 +1,5 @@
 -- The midpoints of a pair as a list of numbers, each of two numbers in one.
-use Prim.Native.Nat.{ℕ, _+_, _*_, _≤_, _<_}
+use Prim.Native.Nat.{ℕ, _+_, _*_, _/_, _%_, _≤_, _<_}
 use mathlib.Core.Path.{_≡_}
 use mathlib.Core.List.{List}
 use mathlib.Core.Bool.{Bool}
@@ -41,6 +41,11 @@ pub record Midpoints (n i : ℕ) (levels : List ℕ) (v u k : ℕ) (list : List 
   pub none : rule .many i ≡ 0 → k ≡ 0
   pub halves : (c : ℕ) → c < rule .many i → Halves n (levelOf n levels (rule .first i c)) (levelOf n levels (rule .second i c)) v u n k list
   pub small : (c : ℕ) → c < rule .many i → (w y : ℕ) → w < n → y < n → numberAt n (levelOf n levels (rule .second i c)) w y < 4294967296
+
+-- behind its first 128 places the list tells of which position, one more, the midpoints in it are, and how many
+pub record Held (n i : ℕ) (levels list : List ℕ) : Type 0 where
+  pub room : length list ≡ 130
+  pub listed : (q : ℕ) → getD list 128 0 ≡ q + 1 → Midpoints n i levels (q / n) (q % n) (getD list 129 0) list
 
 -- place w of the other list has what place m of the list has
 unfoldable pub isSame : List ℕ → List ℕ → ℕ → ℕ → Bool

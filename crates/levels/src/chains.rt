@@ -5,11 +5,11 @@ ghost use Prim.Native.Nat.{ℕ, _+_, _*_, _/_, _%_, _<_, _≤_};
 ghost use lib.ListN.{length};
 ghost use Rattle.rules.specs.Writing.{fill};
 ghost use Rattle.levels.specs.Chains.{word, setWord, bucketOf, Chains, Answer};
-ghost use Rattle.levels.specs.Halves.{Midpoints};
+ghost use Rattle.levels.specs.Halves.{Midpoints, Held};
 ghost use Rattle.levels.specs.Needs.{Ready, isIn, alike};
 ghost use Rattle.levels.specs.Skips.{Laid};
 use super::agree::agree;
-use super::halves::midpoints;
+use super::halves::kept_midpoints;
 use super::hashes::most_at;
 use super::marks::mark_at;
 
@@ -57,7 +57,8 @@ pub fn clear_heads(n: usize, area: &mut [u8])
     }
 }
 
-// The position of the chain of bucket b that agrees with p, or p, where the midpoints of p are listed.
+// The position of the chain of bucket b that agrees with p, or p, where the midpoints of p are listed. Those of the
+// last position compared stay in the other list.
 pub fn find_alike(
     n: usize,
     i: usize,
@@ -67,16 +68,16 @@ pub fn find_alike(
     b: usize,
     mine: &[u64],
     k: usize,
+    other: &mut [u64],
 ) -> usize
-    requires { ⌜ (Ready n i (now levels) (now area)) × (p < n * n) × (b ≡ bucketOf n i (now levels) (now area) p) × (b < n * n) × (Chains (isIn n i (now area)) (alike n i (now levels) (now area)) (bucketOf n i (now levels) (now area)) n (now area) p) × (Laid n i (now levels) (now area)) × (Midpoints n i (now levels) (p / n) (p % n) k (now mine)) ⌝ }
-    ensures { λ r. ⌜ Answer (isIn n i (now (area .entry))) (alike n i (now (levels .entry)) (now (area .entry))) p r ⌝ }
+    requires { ⌜ (Ready n i (now levels) (now area)) × (p < n * n) × (b ≡ bucketOf n i (now levels) (now area) p) × (b < n * n) × (Chains (isIn n i (now area)) (alike n i (now levels) (now area)) (bucketOf n i (now levels) (now area)) n (now area) p) × (Laid n i (now levels) (now area)) × (Midpoints n i (now levels) (p / n) (p % n) k (now mine)) × (Held n i (now levels) (now other)) ⌝ }
+    ensures { λ r. ⌜ (Answer (isIn n i (now (area .entry))) (alike n i (now (levels .entry)) (now (area .entry))) p r) × (Held n i (now (levels .entry)) (now (other .exit))) ⌝ }
 {
-    let mut other: [u64; 128] = [0; 128];
     let mut at = word_at(area, 4 * (n * n) + 2 * b);
     while at != 0 {
         let q = at - 1;
-        let j = midpoints(n, i, levels, area, q, &mut other);
-        if agree(n, area, q / n, q % n, p / n, p % n, &other, j, mine, k) {
+        let j = kept_midpoints(n, i, levels, area, q, other);
+        if agree(n, area, q / n, q % n, p / n, p % n, other, j, mine, k) {
             return q;
         }
         at = word_at(area, 2 * (n * n) + 2 * q);

@@ -7,35 +7,52 @@ ghost use Rattle.rules.specs.Rule.{rule};
 ghost use Rattle.rules.specs.Levels.{levelOf, agreeAt};
 ghost use Rattle.rules.specs.Accept.{levelOk};
 ghost use Rattle.levels.specs.Marks.{markedGraph};
+ghost use Rattle.levels.specs.Halves.{Held};
 ghost use Rattle.levels.specs.Needs.{Stands, Ready, Near, Seen, Firsts, Noted, Passed, Faulty};
 ghost use Rattle.levels.specs.Repeat.{Repeats};
 ghost use Rattle.levels.specs.Skips.{Laid};
 use super::agree::agree;
 use super::chains::set_word;
 use super::chains::word_at;
+use super::halves::kept_midpoints;
 use super::halves::midpoints;
 use super::near::mark_near;
 use super::repeat::repeats;
 use super::repeat::same_below;
 use super::skips::lay_out;
 
-// The pairs at p and q agree at level i.
-fn agree_at(n: usize, i: usize, levels: &[u32], area: &[u8], p: usize, q: usize) -> bool
-    requires { ⌜ (Ready n i (now levels) (now area)) × (p < n * n) × (q < n * n) × (Laid n i (now levels) (now area)) ⌝ }
-    ensures { λ r. ⌜ r ≡ agreeAt rule (markedGraph n (now (area .entry))) i (levelOf n (now (levels .entry))) p q ⌝ }
+// The pairs at p and q agree at level i. The midpoints of q stay in the other list.
+fn agree_at(
+    n: usize,
+    i: usize,
+    levels: &[u32],
+    area: &[u8],
+    p: usize,
+    q: usize,
+    other: &mut [u64],
+) -> bool
+    requires { ⌜ (Ready n i (now levels) (now area)) × (p < n * n) × (q < n * n) × (Laid n i (now levels) (now area)) × (Held n i (now levels) (now other)) ⌝ }
+    ensures { λ r. ⌜ (r ≡ agreeAt rule (markedGraph n (now (area .entry))) i (levelOf n (now (levels .entry))) p q) × (Held n i (now (levels .entry)) (now (other .exit))) ⌝ }
 {
     let mut mine: [u64; 128] = [0; 128];
-    let mut other: [u64; 128] = [0; 128];
     let k = midpoints(n, i, levels, area, p, &mut mine);
-    let j = midpoints(n, i, levels, area, q, &mut other);
-    agree(n, area, p / n, p % n, q / n, q % n, &mine, k, &other, j)
+    let j = kept_midpoints(n, i, levels, area, q, other);
+    agree(n, area, p / n, p % n, q / n, q % n, &mine, k, other, j)
 }
 
 // Position p of level i is right, where top is the largest number before it and the first position of each number stands
 // in the area. A new number's first position is p, which agrees with itself.
-fn is_right(n: usize, i: usize, levels: &[u32], area: &[u8], p: usize, top: u32) -> bool
-    requires { ⌜ (Ready n i (now levels) (now area)) × (Near n i (now area)) × (Seen n i (now levels) p top) × (Firsts n i (now levels) (now area) top) × (Laid n i (now levels) (now area)) ⌝ }
-    ensures { λ r. ⌜ r ≡ levelOk rule (markedGraph n (now (area .entry))) i (levelOf n (now (levels .entry))) p ⌝ }
+fn is_right(
+    n: usize,
+    i: usize,
+    levels: &[u32],
+    area: &[u8],
+    p: usize,
+    top: u32,
+    other: &mut [u64],
+) -> bool
+    requires { ⌜ (Ready n i (now levels) (now area)) × (Near n i (now area)) × (Seen n i (now levels) p top) × (Firsts n i (now levels) (now area) top) × (Laid n i (now levels) (now area)) × (Held n i (now levels) (now other)) ⌝ }
+    ensures { λ r. ⌜ (r ≡ levelOk rule (markedGraph n (now (area .entry))) i (levelOf n (now (levels .entry))) p) × (Held n i (now (levels .entry)) (now (other .exit))) ⌝ }
 {
     let c = levels[(i - 1) * (n * n) + p];
     if area[n * n + p] == 0 {
@@ -48,7 +65,7 @@ fn is_right(n: usize, i: usize, levels: &[u32], area: &[u8], p: usize, top: u32)
         return c == top + 1;
     }
     let q = word_at(area, 2 * (n * n) + 2 * (c as usize - 1));
-    agree_at(n, i, levels, area, p, q)
+    agree_at(n, i, levels, area, p, q, other)
 }
 
 // The largest number so far; where c is a new one, p is kept as its first position.
@@ -69,10 +86,11 @@ fn check_positions(n: usize, i: usize, levels: &[u32], area: &mut [u8]) -> usize
     ensures { λ r. ⌜ Passed n i (now (levels .entry)) (now (area .entry)) r (now (area .exit)) ⌝ }
 {
     let start = (i - 1) * (n * n);
+    let mut other: [u64; 130] = [0; 130];
     let mut top: u32 = 0;
     let mut p = 0;
     while p < n * n {
-        if !is_right(n, i, levels, area, p, top) {
+        if !is_right(n, i, levels, area, p, top, &mut other) {
             return p;
         }
         top = note_first(n, area, p, levels[start + p], top);

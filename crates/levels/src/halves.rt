@@ -6,7 +6,7 @@ ghost use lib.ListN.{length, getD};
 ghost use Rattle.rules.specs.Finite.{allBelow};
 ghost use Rattle.rules.specs.Levels.{levelOf};
 ghost use Rattle.levels.specs.Needs.{Pair, Stands};
-ghost use Rattle.levels.specs.Halves.{pairOf, Listed, Halves, Midpoints, hasSame};
+ghost use Rattle.levels.specs.Halves.{pairOf, Listed, Halves, Midpoints, Held, hasSame};
 ghost use Rattle.levels.specs.Skips.{Skips, Laid};
 use super::agree::first_level;
 use super::agree::number_at;
@@ -109,6 +109,27 @@ pub fn midpoints(
     let a = first_level(i, 0);
     let b = second_level(i, 0);
     halves(n, levels, a, b, area, p / n, p % n, list)
+}
+
+// The same, kept: where the list tells that the midpoints of p stand in it, they are not looked for again.
+pub fn kept_midpoints(
+    n: usize,
+    i: usize,
+    levels: &[u32],
+    area: &[u8],
+    p: usize,
+    list: &mut [u64],
+) -> usize
+    requires { ⌜ (n ≤ 128) × (Stands n (now levels) i) × (p < n * n) × (Held n i (now levels) (now list)) × (Laid n i (now levels) (now area)) ⌝ }
+    ensures { λ r. ⌜ (Midpoints n i (now (levels .entry)) (p / n) (p % n) r (now (list .exit))) × (Held n i (now (levels .entry)) (now (list .exit))) ⌝ }
+{
+    if list[128] == p as u64 + 1 {
+        return list[129] as usize;
+    }
+    let k = midpoints(n, i, levels, area, p, list);
+    list[128] = p as u64 + 1;
+    list[129] = k as u64;
+    k
 }
 
 // Each midpoint of a list has a twin in another, and the other way round.

@@ -2,6 +2,7 @@
 ghost use mathlib.Core.Path.{_≡_};
 ghost use Prim.Native.Nat.{ℕ, _+_, _*_, _-_, _<_, _≤_};
 ghost use Rattle.levels.specs.Chains.{Chains, bucketOf};
+ghost use Rattle.levels.specs.Halves.{Held};
 ghost use Rattle.levels.specs.Needs.{Ready, Near, Begun, Taken, Positioned, Numbered, isIn, alike};
 ghost use Rattle.levels.specs.Repeat.{Topped};
 ghost use Rattle.levels.specs.Skips.{Laid};
@@ -17,9 +18,17 @@ use super::skips::lay_out;
 
 // The number of position p, where the numbers before it stand and top is the largest of them: that of an earlier position
 // that agrees, or a new one. Only positions of the same bucket are compared: alike positions share it.
-fn next_number(n: usize, i: usize, levels: &[u32], area: &mut [u8], p: usize, top: u32) -> u32
-    requires { ⌜ (Ready n i (now levels) (now area)) × (Near n i (now area)) × (Begun n i (now levels) (now area) p top) × (p < n * n) × (Chains (isIn n i (now area)) (alike n i (now levels) (now area)) (bucketOf n i (now levels) (now area)) n (now area) p) × (Laid n i (now levels) (now area)) ⌝ }
-    ensures { λ r. ⌜ Taken n i (now (levels .entry)) (now (area .entry)) p r (now (area .exit)) ⌝ }
+fn next_number(
+    n: usize,
+    i: usize,
+    levels: &[u32],
+    area: &mut [u8],
+    p: usize,
+    top: u32,
+    other: &mut [u64],
+) -> u32
+    requires { ⌜ (Ready n i (now levels) (now area)) × (Near n i (now area)) × (Begun n i (now levels) (now area) p top) × (p < n * n) × (Chains (isIn n i (now area)) (alike n i (now levels) (now area)) (bucketOf n i (now levels) (now area)) n (now area) p) × (Laid n i (now levels) (now area)) × (Held n i (now levels) (now other)) ⌝ }
+    ensures { λ r. ⌜ (Taken n i (now (levels .entry)) (now (area .entry)) p r (now (area .exit))) × (Held n i (now (levels .entry)) (now (other .exit))) ⌝ }
 {
     if area[n * n + p] == 0 {
         return 0;
@@ -27,7 +36,7 @@ fn next_number(n: usize, i: usize, levels: &[u32], area: &mut [u8], p: usize, to
     let mut mine: [u64; 128] = [0; 128];
     let k = midpoints(n, i, levels, area, p, &mut mine);
     let b = bucket(n, area, p, &mine, k);
-    let q = find_alike(n, i, levels, area, p, b, &mine, k);
+    let q = find_alike(n, i, levels, area, p, b, &mine, k, other);
     if q < p {
         return levels[(i - 1) * (n * n) + q];
     }
@@ -41,10 +50,11 @@ fn number_positions(n: usize, i: usize, levels: &mut [u32], area: &mut [u8]) -> 
     ensures { λ r. ⌜ Positioned n i (now (levels .entry)) (now (area .entry)) r (now (levels .exit)) (now (area .exit)) ⌝ }
 {
     let start = (i - 1) * (n * n);
+    let mut other: [u64; 130] = [0; 130];
     let mut top: u32 = 0;
     let mut p = 0;
     while p < n * n {
-        let k = next_number(n, i, levels, area, p, top);
+        let k = next_number(n, i, levels, area, p, top, &mut other);
         levels[start + p] = k;
         if top < k {
             top = k;

@@ -34,29 +34,6 @@ module _ (ρ : Rule) (g : Graph) (i : ℕ) (T : ℕ → List ℕ) (v u x y : ℕ
       (and-right (sameEnds g v u x y) (sameSteps g v u x y) (and-left (sameEnds g v u x y && sameSteps g v u x y) (allBelow (ρ .many i) (splitOk ρ g i T v u x y)) t))
       (sym h ∙ not-true r k))
 
-  -- a split that fails
-  split-fails : (c : ℕ) → c < ρ .many i → splitOk ρ g i T v u x y c ≡ false → false ≡ agree ρ g i T v u x y
-  unfolding agree
-  split-fails c l k =
-      let all = allBelow (ρ .many i) (splitOk ρ g i T v u x y) in
-      not-agree (λ t. not-both all (and-right (sameEnds g v u x y && sameSteps g v u x y) all t) (all-not-at (splitOk ρ g i T v u x y) (ρ .many i) c l k))
-
-  module _ (c : ℕ) {count a b : ℕ} (many : count ≡ ρ .many i) (ea : a ≡ ρ .first i c) (eb : b ≡ ρ .second i c) where
-    pub agree-split : c < count → {r : Bool} → r ≡ (twins (g .items) (T a) (T b) v u x y && twins (g .items) (T a) (T b) x y v u) → not r ≡ true → false ≡ agree ρ g i T v u x y
-    unfolding splitOk
-    agree-split l {r} h k = split-fails c (rw many at l) (rw (← ea, ← eb) (sym h ∙ not-true r k))
-
-    pub split-holds : {r : Bool} → r ≡ (twins (g .items) (T a) (T b) v u x y && twins (g .items) (T a) (T b) x y v u) → not r ≡ false → splitOk ρ g i T v u x y c ≡ true
-    unfolding splitOk
-    split-holds {r} h k = rw (← ea, ← eb) (sym h ∙ not-false r k)
-
-  pub agree-all : {r s : Bool} → r ≡ sameEnds g v u x y → not r ≡ false → s ≡ sameSteps g v u x y → not s ≡ false
-      → allBelow (ρ .many i) (splitOk ρ g i T v u x y) ≡ true → true ≡ agree ρ g i T v u x y
-  unfolding agree
-  agree-all {r} {s} h k h' k' all =
-      sym (and-intro (sameEnds g v u x y && sameSteps g v u x y) _
-      (and-intro (sameEnds g v u x y) (sameSteps g v u x y) (sym h ∙ not-false r k) (sym h' ∙ not-false s k')) all)
-
 -- the levels of both halves stand
 module _ (n i : ℕ) (levels : List ℕ) (st : Stands n levels i) (c : ℕ) {count : ℕ} (many : count ≡ rule .many i) (l : c < count) where
   lower : (a : ℕ) → 0 < a → a < i → Stands n levels a

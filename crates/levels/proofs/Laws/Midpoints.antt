@@ -6,7 +6,8 @@ use mathlib.Core.List.{List}
 use mathlib.Core.Bool.{Bool, true, false, not, _&&_}
 use native.Mathlib.Nat.{eq-zero-or-pos}
 use native.Mathlib.Omega.{arith}
-use lib.ListN.{length, getD}
+use lib.ListN.{length, getD, set, length-set}
+use lib.Seq.{getD-set-same, getD-set-other}
 use borrow.Author.Tests.{not-false}
 use Rattle.rules.specs.Finite.{allBelow}
 use Rattle.rules.specs.Graph.{Graph}
@@ -17,7 +18,7 @@ use Rattle.rules.proofs.Laws.Loops.{all-start}
 use Rattle.rules.proofs.Laws.Tests.{same}
 use Rattle.levels.specs.Marks.{markedGraph}
 use Rattle.levels.specs.Chains.{Mosts, mostBelow, mostOf}
-use Rattle.levels.specs.Halves.{Halves, Midpoints, hasSame}
+use Rattle.levels.specs.Halves.{Halves, Midpoints, Held, hasSame}
 use Rattle.levels.proofs.Laws.Halves.{within-twins, number-small}
 use Rattle.levels.proofs.Laws.Signature.{split-is, most-none, most-some}
 use Rattle.levels.proofs.Laws.Tables.{rule-first, rule-second}
@@ -39,6 +40,62 @@ midpoints-some n i levels v u k list {count} {a} {b} hi e d ea eb small hs =
       halves = λ c h. rw (second c, sym (rule-first i c hi) ∙ rule-first i 0 hi ∙ sym ea) hs;
       small = λ c h. number-small n levels (rule .second i c) (rule .second-some i c h) small;
     }
+
+-- lists with the same first n places
+module _ (n i : ℕ) (levels : List ℕ) (v u k : ℕ) (list list' : List ℕ) (z : length list' ≡ length list) (e : (j : ℕ) → j < n → getD list' j 0 ≡ getD list j 0) where
+  halves-same : (s t : List ℕ) → Halves n s t v u n k list → Halves n s t v u n k list'
+  halves-same s t h =
+      record {
+        few = h .few;
+        room = rw z (h .room);
+        sound = λ j l. rw (e j (omega (arith, h .few))) (h .sound j l);
+        complete = λ w l a b. let d = h .complete w l a b in record { place = d .place; below = d .below; is = e (d .place) (omega (arith, d .below, h .few)) ∙ d .is };
+      }
+
+  pub midpoints-same : Midpoints n i levels v u k list → Midpoints n i levels v u k list'
+  midpoints-same h =
+      record {
+        few = rw z (h .few);
+        none = h .none;
+        halves = λ c l. halves-same (levelOf n levels (rule .first i c)) (levelOf n levels (rule .second i c)) (h .halves c l);
+        small = h .small;
+      }
+
+-- a list that tells nothing yet
+pub held-none : (n i : ℕ) (levels list : List ℕ) → length list ≡ 130 → getD list 128 0 ≡ 0 → Held n i levels list
+held-none n i levels list z e = record { room = z; listed = λ q h. absurd (omega (arith, e, h)) }
+
+-- the list tells of p
+pub held-old : (n i : ℕ) (levels list : List ℕ) (p : ℕ) → Held n i levels list → getD list 128 0 ≡ p + 1 → Midpoints n i levels (p / n) (p % n) (getD list 129 0) list
+held-old n i levels list p h e = h .listed p e
+
+-- the list is made to tell of p
+pub held-new : (n i : ℕ) (levels list : List ℕ) (p k : ℕ) → n ≤ 128 → length list ≡ 130 → Midpoints n i levels (p / n) (p % n) k list
+    → (Midpoints n i levels (p / n) (p % n) k (set (set list 128 (p + 1)) 129 k)) × (Held n i levels (set (set list 128 (p + 1)) 129 k))
+held-new n i levels list p k h z m =
+    let one = set list 128 (p + 1) in
+    let two = set one 129 k in
+    let size : length two ≡ length list = length-set one 129 k ∙ length-set list 128 (p + 1) in
+    let m' = midpoints-same n i levels (p / n) (p % n) k list two size
+    (λ j l. getD-set-other one 129 j k 0 (λ d. omega arith) ∙ getD-set-other list 128 j (p + 1) 0 (λ d. omega arith)) m in
+    let of : getD two 128 0 ≡ p + 1 = getD-set-other one 129 128 k 0 (λ d. omega arith) ∙ getD-set-same list 128 (p + 1) 0 (omega arith) in
+    let many : getD two 129 0 ≡ k = getD-set-same one 129 k 0 (omega (arith, length-set list 128 (p + 1))) in (
+      m',
+      record { room = size ∙ z; listed = λ q e. let d : q ≡ p = omega (arith, e, of) in rw (d, many) m' },
+    )
+
+-- what the levels below give stays while they do
+pub held-kept : (n i : ℕ) (l l' list : List ℕ) → ((j : ℕ) → j < i → levelOf n l' j ≡ levelOf n l j) → Held n i l list → Held n i l' list
+held-kept n i l l' list below h = record { room = h .room; listed = λ q e. kept (q / n) (q % n) (getD list 129 0) (h .listed q e) }
+  where
+    kept : (v u k : ℕ) → Midpoints n i l v u k list → Midpoints n i l' v u k list
+    kept v u k m =
+        record {
+          few = m .few;
+          none = m .none;
+          halves = λ c h. rw (below (rule .first i c) (rule .first-below i c h), below (rule .second i c) (rule .second-below i c h)) (m .halves c h);
+          small = λ c h. rw (below (rule .second i c) (rule .second-below i c h)) (m .small c h);
+        }
 
 -- the search over the lists is that over the splits
 module _ (n : ℕ) (area : List ℕ) (i : ℕ) (levels : List ℕ) (v u x y : ℕ) (hu : u < n) (hy : y < n) (k j : ℕ) (mine other : List ℕ)

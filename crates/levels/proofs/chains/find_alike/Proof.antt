@@ -1,16 +1,16 @@
 -- The invariant: whatever in the chain is alike p is still ahead. Links lead down, so the walk ends; then no earlier position is alike.
 use Prim.Native.Nat.{ℕ, _*_, _-_, _<_}
-use mathlib.Core.Path.{_≡_, refl}
+use mathlib.Core.Path.{sym, _∙_}
 use native.Mathlib.Omega.{arith}
-use borrow.Author.Needs.{needs}
-use lib.ListN.{length, getD}
+use lib.ListN.{getD}
 use Rattle.rules.proofs.Laws.Places.{some-items, row-lt, column-lt}
+use Rattle.levels.specs.Halves.{Held}
 use Rattle.levels.proofs.Laws.Walk.{Ahead, walk-start, walk-met, walk-less, walk-next, walk-found, walk-none}
 use Rattle.levels.proofs.chains.find_alike.Statement.{statement}
 use Rattle.levels.proofs.chains.find_alike.Tie as tie
 
 abbrev Inv-loop : tie.InvT-loop
-Inv-loop n i levels area p b mine k other₀ at₀ other at = (Ahead n i levels area p b at) × (length other ≡ 128)
+Inv-loop n i levels area p b mine k other₀ at₀ other at = (Ahead n i levels area p b at) × (Held n i levels other)
 
 abbrev μ-loop : tie.MeasureT-loop
 μ-loop n i levels area p b mine k other₀ at₀ other at = at
@@ -31,43 +31,37 @@ word-at-requires : tie.Need-word-at-requires Inv-loop μ-loop
 word-at-requires c κs = omega arith
 
 loop-holds : tie.Need-loop-holds Inv-loop μ-loop
-loop-holds c = let a = c .before .before .before .before in (walk-start _ _ _ _ _ _ (a .pre .4) (a .pre .3) (c .word-at .ensures .0), refl)
+loop-holds c = let a = c .before .before .before .before .before in (walk-start _ _ _ _ _ _ (a .pre .4) (a .pre .3) (c .word-at .ensures .0), a .pre .7)
 
 sub-q : tie.Need-sub-q Inv-loop μ-loop
 sub-q c = omega (arith, c .loop-test .taken)
 
-slice-aggregate-midpoints : tie.Need-slice-aggregate-midpoints Inv-loop μ-loop
-slice-aggregate-midpoints c = search needs
-
-midpoints-requires : tie.Need-midpoints-requires Inv-loop μ-loop
-midpoints-requires c κs =
+kept-midpoints-requires : tie.Need-kept-midpoints-requires Inv-loop μ-loop
+kept-midpoints-requires c κs =
     let t = c .before in
     let l = t .before in
-    let a = l .before .before .before .before .before in
+    let a = l .before .before .before .before .before .before in
     let m = walk-met _ _ _ _ _ _ _ (t .loop-test .taken) (l .loop .inv .0) in
-    (record { some = a .pre .0 .some; room = a .pre .0 .room }, omega (arith, m .before), omega (arith, a .pre .0 .few, l .loop .inv .1), a .pre .5)
+    (a .pre .0 .few, record { some = a .pre .0 .some; room = a .pre .0 .room }, omega (arith, m .before), l .loop .inv .1, a .pre .5)
 
 div-agree : tie.Need-div-agree Inv-loop μ-loop
-div-agree c = some-items _ _ (c .before .before .before .before .before .before .before .before .before .pre .1)
+div-agree c = some-items _ _ (c .before .before .before .before .before .before .before .before .before .before .before .pre .1)
 
 rem-agree : tie.Need-rem-agree Inv-loop μ-loop
-rem-agree c = some-items _ _ (c .before .before .before .before .before .before .before .before .before .pre .1)
+rem-agree c = some-items _ _ (c .before .before .before .before .before .before .before .before .before .before .before .pre .1)
 
 div-agree-2 : tie.Need-div-agree-2 Inv-loop μ-loop
-div-agree-2 c = some-items _ _ (c .before .before .before .before .before .before .before .before .before .pre .1)
+div-agree-2 c = some-items _ _ (c .before .before .before .before .before .before .before .before .before .before .before .pre .1)
 
 rem-agree-2 : tie.Need-rem-agree-2 Inv-loop μ-loop
-rem-agree-2 c = some-items _ _ (c .before .before .before .before .before .before .before .before .before .pre .1)
-
-slice-aggregate-agree : tie.Need-slice-aggregate-agree Inv-loop μ-loop
-slice-aggregate-agree c = search needs
+rem-agree-2 c = some-items _ _ (c .before .before .before .before .before .before .before .before .before .before .before .pre .1)
 
 agree-requires : tie.Need-agree-requires Inv-loop μ-loop
 agree-requires c κs =
-    let k = c .before .before in
+    let k = c .before .before .before in
     let t = k .before .before in
     let l = t .before in
-    let a = l .before .before .before .before .before in
+    let a = l .before .before .before .before .before .before in
     let m = walk-met _ _ _ _ _ _ _ (t .loop-test .taken) (l .loop .inv .0) in
     let h : l .loop .at - 1 < a .args .n * a .args .n = omega (arith, m .before) in
     let q1 = row-lt _ _ h in
@@ -77,17 +71,22 @@ agree-requires c κs =
       record { room = omega arith },
       record { first = omega arith; second = omega arith },
       record { first = omega arith; second = omega arith },
-      k .midpoints .ensures .few,
+      k .kept-midpoints .ensures .0 .few,
       a .pre .6 .few,
     )
+
+same-length : tie.Need-same-length Inv-loop μ-loop
+same-length c = let k = c .before .before .before .before .before in k .kept-midpoints .ensures .1 .room ∙ sym (k .before .before .before .before .before .before .before .before .before .pre .7 .room)
 
 returns : tie.Need-returns Inv-loop μ-loop
 returns c =
     let g = c .before in
-    let k = g .before .before .before in
+    let k = g .before .before .before .before in
     let t = k .before .before in
-    let l = t .before in
-    walk-found _ _ _ _ _ _ _ (t .loop-test .taken) (l .loop .inv .0) (g .agree .ensures _ _ (k .midpoints .ensures) (l .before .before .before .before .before .pre .6)) (c .if1 .taken)
+    let l = t .before in (
+      walk-found _ _ _ _ _ _ _ (t .loop-test .taken) (l .loop .inv .0) (g .agree .ensures _ _ (k .kept-midpoints .ensures .0) (l .before .before .before .before .before .before .pre .6)) (c .if1 .taken),
+      k .kept-midpoints .ensures .1,
+    )
 
 mul-word-at-4 : tie.Need-mul-word-at-4 Inv-loop μ-loop
 mul-word-at-4 c = omega arith
@@ -96,35 +95,38 @@ mul-word-at-5 : tie.Need-mul-word-at-5 Inv-loop μ-loop
 mul-word-at-5 c = omega arith
 
 mul-word-at-6 : tie.Need-mul-word-at-6 Inv-loop μ-loop
-mul-word-at-6 c = let t = c .before .before .before .before .before .before in omega (arith, walk-met _ _ _ _ _ _ _ (t .loop-test .taken) (t .before .loop .inv .0) .before)
+mul-word-at-6 c = let t = c .before .before .before .before .before .before .before in omega (arith, walk-met _ _ _ _ _ _ _ (t .loop-test .taken) (t .before .loop .inv .0) .before)
 
 add-word-at-2 : tie.Need-add-word-at-2 Inv-loop μ-loop
-add-word-at-2 c = let t = c .before .before .before .before .before .before in omega (arith, walk-met _ _ _ _ _ _ _ (t .loop-test .taken) (t .before .loop .inv .0) .before)
+add-word-at-2 c = let t = c .before .before .before .before .before .before .before in omega (arith, walk-met _ _ _ _ _ _ _ (t .loop-test .taken) (t .before .loop .inv .0) .before)
 
 word-at-requires-2 : tie.Need-word-at-requires-2 Inv-loop μ-loop
-word-at-requires-2 c κs = let t = c .before .before .before .before .before .before in omega (arith, walk-met _ _ _ _ _ _ _ (t .loop-test .taken) (t .before .loop .inv .0) .before)
+word-at-requires-2 c κs = let t = c .before .before .before .before .before .before .before in omega (arith, walk-met _ _ _ _ _ _ _ (t .loop-test .taken) (t .before .loop .inv .0) .before)
 
 loop-less : tie.Need-loop-less Inv-loop μ-loop
-loop-less c = let t = c .before .before .before .before .before .before .before in walk-less _ _ _ _ _ _ _ (t .loop-test .taken) (t .before .loop .inv .0) (c .word-at2 .ensures .0)
+loop-less c = let t = c .before .before .before .before .before .before .before .before in walk-less _ _ _ _ _ _ _ (t .loop-test .taken) (t .before .loop .inv .0) (c .word-at2 .ensures .0)
 
 loop-again : tie.Need-loop-again Inv-loop μ-loop
 loop-again c =
     let e = c .before in
     let g = e .before in
-    let k = g .before .before .before in
+    let k = g .before .before .before .before in
     let t = k .before .before in
     let l = t .before in (
-      walk-next _ _ _ _ _ _ _ (t .loop-test .taken) (l .loop .inv .0) (g .agree .ensures _ _ (k .midpoints .ensures) (l .before .before .before .before .before .pre .6)) (e .if1 .left) (c .word-at2 .ensures .0),
-      search needs,
+      walk-next _ _ _ _ _ _ _ (t .loop-test .taken) (l .loop .inv .0) (g .agree .ensures _ _ (k .kept-midpoints .ensures .0) (l .before .before .before .before .before .before .pre .6)) (e .if1 .left) (c .word-at2 .ensures .0),
+      k .kept-midpoints .ensures .1,
     )
+
+same-length-2 : tie.Need-same-length-2 Inv-loop μ-loop
+same-length-2 c = let l = c .before in l .loop .inv .1 .room ∙ sym (l .before .before .before .before .before .before .pre .7 .room)
 
 returns-2 : tie.Need-returns-2 Inv-loop μ-loop
 returns-2 c =
     let l = c .before in
-    let s = l .before .before .before in
+    let s = l .before .before .before .before in
     let a = s .before .before in
     let bytes : (q : ℕ) → getD (a .args .area .now) q 0 < 256 = λ q. omega (arith, s .shared-slice-known2 .given q) in
-    walk-none _ _ _ _ _ _ (a .pre .4) (a .pre .1) (a .pre .2) bytes (l .loop .inv .0) (c .loop-test .left)
+    (walk-none _ _ _ _ _ _ (a .pre .4) (a .pre .1) (a .pre .2) bytes (l .loop .inv .0) (c .loop-test .left), l .loop .inv .1)
 
 pub find-alike-spec : {M : Type 1} → statement M
 find-alike-spec =
@@ -139,14 +141,13 @@ find-alike-spec =
     word-at-requires
     loop-holds
     sub-q
-    slice-aggregate-midpoints
-    midpoints-requires
+    kept-midpoints-requires
     div-agree
     rem-agree
     div-agree-2
     rem-agree-2
-    slice-aggregate-agree
     agree-requires
+    same-length
     returns
     mul-word-at-4
     mul-word-at-5
@@ -155,4 +156,5 @@ find-alike-spec =
     word-at-requires-2
     loop-less
     loop-again
+    same-length-2
     returns-2)
