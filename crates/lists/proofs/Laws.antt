@@ -1,8 +1,4 @@
--- Laws of the entry list: entries one by one, the entries of a relation, the walk over sequences, and all lengths.
-pub mod Meeting
-pub mod Went
-pub mod Emitting
-pub mod Hits
+-- Laws of the entry list: the walk over sequences, and all lengths.
 pub mod Sequences
 pub mod Bounds
 pub mod Walking

@@ -1,5 +1,4 @@
 // The entry list of a level-k table. Narrow contracts; the entries of the index do the refusing.
 
-pub mod entries; // the entries of one relation
 mod sequences; // the walk over sequences
 pub mod listing; // the entry list, written or compared

@@ -12,7 +12,8 @@ use Rattle.rules.specs.Lists.{joins, codeFrom, entriesBehind, entriesUpTo, entr
 use Rattle.sorting.proofs.Laws.Difference.{is-difference}
 use Rattle.lists.proofs.Laws.Leaves.{leaf}
 use Rattle.sorting.specs.Sort.{Contiguous}
-use Rattle.lists.specs.Entries.{Went, Listed, Compared, entriesRows}
+use Rattle.entries.specs.Entries.{Went, entriesRows}
+use Rattle.lists.specs.Walks.{Listed, Compared}
 
 -- the entries of the sequences of 1 to j symbols
 abbrev pub longer : Graph → List ℕ → ℕ → ℕ → List ℕ

@@ -25,7 +25,7 @@ use Rattle.rules.proofs.Laws.Levels.{level-size, level-front, levels-size, leve
 use Rattle.rules.proofs.Laws.Builder.{level-ok}
 use Rattle.levels.specs.Needs.{EdgesFit, Room, Past}
 use Rattle.sorting.specs.Sort.{Contiguous, AtMost, Fills}
-use Rattle.lists.specs.Entries.{Listing, Listed}
+use Rattle.lists.specs.Walks.{Listing, Listed}
 use Rattle.sorting.proofs.Laws.Sorting.{upTo-le}
 use Rattle.sorting.proofs.Laws.Numbers.{at-most, max-few}
 use Rattle.rules.specs.Calls.{buildEnd}

@@ -26,7 +26,7 @@ use Rattle.rules.proofs.Laws.Calls.{Passed, passed, top-length}
 use Rattle.rules.proofs.Theorems.Acceptance.{check-worked, check-refused}
 use Rattle.levels.specs.Needs.{EdgesFit, Room}
 use Rattle.relations.specs.Relations.{Frame}
-use Rattle.lists.specs.Entries.{Compared}
+use Rattle.lists.specs.Walks.{Compared}
 use Rattle.sorting.specs.Counters.{Matching, Matches}
 use Rattle.sorting.proofs.Laws.Difference.{difference-is}
 use Rattle.sorting.proofs.Laws.Numbers.{max-few}

@@ -7,8 +7,8 @@ use lib.ListN.{length}
 use Rattle.relations.specs.Relations.{Frame, Marked}
 use Rattle.relations.proofs.Laws.Areas as areas
 use Rattle.rules.proofs.Laws.Places.{square-le}
-use Rattle.lists.specs.Entries.{Went, Firsts}
-use Rattle.lists.proofs.Laws.Went as went
+use Rattle.entries.specs.Entries.{Went, Firsts}
+use Rattle.entries.proofs.Laws.Went as went
 use Rattle.rules.specs.Levels.{maxOf}
 use Rattle.rules.specs.Graph.{graphOf}
 use Rattle.sorting.specs.Sort.{Contiguous}

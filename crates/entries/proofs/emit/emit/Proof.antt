@@ -8,11 +8,11 @@ use lib.ListN.{length}
 use Rattle.relations.specs.Relations.{Slot}
 use Rattle.relations.proofs.Laws.Joining.{next-row}
 use Rattle.rules.proofs.Laws.Places.{row-fits, square-le}
-use Rattle.lists.specs.Entries.{Went, Firsts, entriesRows}
-use Rattle.lists.proofs.Laws.Went as went
-use Rattle.lists.proofs.Laws.Emitting as emitting
-use Rattle.lists.proofs.entries.emit.Statement.{statement}
-use Rattle.lists.proofs.entries.emit.Tie as tie
+use Rattle.entries.specs.Entries.{Went, Firsts, entriesRows}
+use Rattle.entries.proofs.Laws.Went as went
+use Rattle.entries.proofs.Laws.Emitting as emitting
+use Rattle.entries.proofs.emit.emit.Statement.{statement}
+use Rattle.entries.proofs.emit.emit.Tie as tie
 
 abbrev Inv-loop : tie.InvT-loop
 Inv-loop table n code from l area stored out₀ done₀ v₀ out done v = (v ≤ n) × (done .count ≤ done₀ .count + v * n) × (length out ≡ length out₀) × ((J : ℕ → ℕ → Bool) → Slot n from l area J → Firsts n table area → Went (done₀ .count) (done₀ .met) (done .count) (done .met) (entriesRows n table J code v) stored out₀ out)

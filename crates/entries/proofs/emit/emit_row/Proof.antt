@@ -3,10 +3,10 @@ use Prim.Native.Nat.{_+_, _*_, _≤_}
 use native.Mathlib.Omega.{arith}
 use borrow.Author.Needs.{needs}
 use Rattle.rules.proofs.Laws.Places.{row-fits, square-le}
-use Rattle.lists.specs.Entries.{isHit}
-use Rattle.lists.proofs.Laws.Hits.{count-le, row-counted}
-use Rattle.lists.proofs.entries.emit_row.Statement.{statement}
-use Rattle.lists.proofs.entries.emit_row.Tie as tie
+use Rattle.entries.specs.Entries.{isHit}
+use Rattle.entries.proofs.Laws.Hits.{count-le, row-counted}
+use Rattle.entries.proofs.emit.emit_row.Statement.{statement}
+use Rattle.entries.proofs.emit.emit_row.Tie as tie
 
 -- the row lies in its block
 row : (c : tie.Start) → c .args .v * c .args .n + c .args .n ≤ c .args .n * c .args .n

@@ -3,11 +3,11 @@ use Prim.Native.Nat.{_-_, _≤_}
 use mathlib.Core.Path.{_≡_, sym}
 use native.Mathlib.Omega.{arith}
 use Rattle.rules.specs.Finite.{countBelow}
-use Rattle.lists.specs.Entries.{isHit}
+use Rattle.entries.specs.Entries.{isHit}
 use Rattle.rules.proofs.Laws.Counting.{count-none}
-use Rattle.lists.proofs.Laws.Hits.{count-more}
-use Rattle.lists.proofs.entries.count_row.Statement.{statement}
-use Rattle.lists.proofs.entries.count_row.Tie as tie
+use Rattle.entries.proofs.Laws.Hits.{count-more}
+use Rattle.entries.proofs.emit.count_row.Statement.{statement}
+use Rattle.entries.proofs.emit.count_row.Tie as tie
 
 abbrev Inv-loop : tie.InvT-loop
 Inv-loop area from firsts l n some₀ u₀ some u = (u ≤ n) × (some ≡ countBelow u (isHit area from firsts l)) × (some ≤ u)

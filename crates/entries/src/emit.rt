@@ -13,7 +13,7 @@ ghost use lib.ListN.{length, getD};
 ghost use Rattle.rules.specs.Finite.{countBelow};
 ghost use Rattle.rules.specs.Accept.{difference};
 ghost use Rattle.relations.specs.Relations.{bitAt, Frame, Slot};
-ghost use Rattle.lists.specs.Entries.{Went, Firsts, Emitting, isHit, entriesRow, entriesRows};
+ghost use Rattle.entries.specs.Entries.{Went, Firsts, Emitting, isHit, entriesRow, entriesRows};
 
 // How far the entries have come: how many there are, and the first number at which they differ from the stored list.
 pub struct Progress {

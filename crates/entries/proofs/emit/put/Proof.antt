@@ -1,10 +1,10 @@
 -- Two ways: no room for both numbers, and nothing is written; or the entry stands behind the k before it. The difference is `meet`'s.
 use mathlib.Core.Path.{refl}
 use borrow.Author.Needs.{needs}
-use Rattle.lists.proofs.Laws.Went as went
+use Rattle.entries.proofs.Laws.Went as went
 use borrow.Author.Needs.{needs}
-use Rattle.lists.proofs.entries.put.Statement.{statement}
-use Rattle.lists.proofs.entries.put.Tie as tie
+use Rattle.entries.proofs.emit.put.Statement.{statement}
+use Rattle.entries.proofs.emit.put.Tie as tie
 
 meet-requires : tie.Need-meet-requires
 meet-requires c κs = search needs

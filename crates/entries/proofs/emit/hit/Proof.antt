@@ -1,8 +1,8 @@
 -- The two ways of the test: 0 where the position is not a first one, else bit l.
 use borrow.Author.Needs.{needs}
-use Rattle.lists.proofs.Laws.Hits.{hit-none, hit-some}
-use Rattle.lists.proofs.entries.hit.Statement.{statement}
-use Rattle.lists.proofs.entries.hit.Tie as tie
+use Rattle.entries.proofs.Laws.Hits.{hit-none, hit-some}
+use Rattle.entries.proofs.emit.hit.Statement.{statement}
+use Rattle.entries.proofs.emit.hit.Tie as tie
 
 returns : tie.Need-returns
 returns c = hit-none (c .before .args .first) (c .before .args .l) (c .before .args .x) (c .if1 .taken)

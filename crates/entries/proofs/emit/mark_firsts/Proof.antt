@@ -7,12 +7,12 @@ use lib.ListN.{length, take}
 use Rattle.relations.specs.Relations.{Run}
 use Rattle.relations.proofs.Laws.Areas as areas
 use Rattle.rules.proofs.Laws.Places.{square-le}
-use Rattle.lists.specs.Entries.{isFirst}
+use Rattle.entries.specs.Entries.{isFirst}
 use Rattle.rules.specs.Levels.{maxOf}
-use Rattle.lists.proofs.Laws.Emitting as emitting
+use Rattle.entries.proofs.Laws.Emitting as emitting
 use Rattle.sorting.proofs.Laws.Numbers as numbers
-use Rattle.lists.proofs.entries.mark_firsts.Statement.{statement}
-use Rattle.lists.proofs.entries.mark_firsts.Tie as tie
+use Rattle.entries.proofs.emit.mark_firsts.Statement.{statement}
+use Rattle.entries.proofs.emit.mark_firsts.Tie as tie
 
 abbrev Inv-loop : tie.InvT-loop
 Inv-loop table n area₀ at most₀ p₀ area most p = (p ≤ length table) × (most ≡ maxOf (take p table)) × (Run at p (λ i. cond (isFirst table i) 1 0) area₀ area)

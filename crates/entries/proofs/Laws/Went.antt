@@ -6,7 +6,7 @@ use native.Mathlib.Omega.{arith}
 use lib.ListN.{length, take, drop, set, length-set, length-append, take-append-drop}
 use lib.Seq.{sets-eq, take-at, drop-at, length-take-le, drop-drop}
 use Rattle.rules.specs.Accept.{difference}
-use Rattle.lists.specs.Entries.{Went}
+use Rattle.entries.specs.Entries.{Went}
 
 -- what `meet` says of one entry
 abbrev pub Meets : ℕ → ℕ → ℕ → ℕ → ℕ → List ℕ → Type 0

@@ -14,9 +14,9 @@ use Rattle.rules.specs.Finite.{countBelow}
 use Rattle.rules.proofs.Laws.Tests.{either}
 use Rattle.rules.proofs.Laws.Places.{place-lt}
 use Rattle.relations.specs.Relations.{bitAt, Slot}
-use Rattle.lists.specs.Entries.{Went, Firsts, isFirst, isHit, entriesRow}
+use Rattle.entries.specs.Entries.{Went, Firsts, isFirst, isHit, entriesRow}
 use Rattle.sorting.proofs.Laws.Difference.{difference-is}
-use Rattle.lists.proofs.Laws.Went.{went-as, went-none}
+use Rattle.entries.proofs.Laws.Went.{went-as, went-none}
 
 -- one position
 pub hit-none : (first l x : ℕ) → first ≡ 0 → 0 ≡ cond {A = ℕ} (not (eqb first 0) && bitAt l x) 1 0

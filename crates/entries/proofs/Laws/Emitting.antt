@@ -21,7 +21,7 @@ use Rattle.sorting.proofs.Laws.Numbers.{max-none, max-step, max-all, max-mono}
 use Rattle.sorting.specs.Sort.{Contiguous}
 use Rattle.relations.specs.Relations.{bitAt, Lacks, Slot, Kept}
 use Rattle.relations.proofs.Laws.Blocks.{digit}
-use Rattle.lists.specs.Entries.{isFirst, firstRow, entriesRow, entriesRows, Firsts}
+use Rattle.entries.specs.Entries.{isFirst, firstRow, entriesRow, entriesRows, Firsts}
 
 -- ---- the marks of first positions
 pub first-yes : (t : List ℕ) (p : ℕ) → maxOf (take p t) < getD t p 0 → _≡_ {A = ℕ} 1 (cond (isFirst t p) 1 0)

@@ -1,9 +1,9 @@
 -- Six ways, a law each: differed before, the stored list ends, code differs, it ends after the code, class differs, both are the same.
 use borrow.Author.Needs.{needs}
-use Rattle.lists.proofs.Laws.Meeting as meeting
+use Rattle.entries.proofs.Laws.Meeting as meeting
 use borrow.Author.Needs.{needs}
-use Rattle.lists.proofs.entries.meet.Statement.{statement}
-use Rattle.lists.proofs.entries.meet.Tie as tie
+use Rattle.entries.proofs.emit.meet.Statement.{statement}
+use Rattle.entries.proofs.emit.meet.Tie as tie
 
 mul-i : tie.Need-mul-i
 mul-i c = search needs
