@@ -1,5 +1,5 @@
 -- Levels that repeat: while rule C looks at the level below only, a level is a function of it.
-use Prim.Native.Nat.{ℕ, _*_, _-_, _<_}
+use Prim.Native.Nat.{ℕ, _-_, _<_}
 use mathlib.Core.Path.{_≡_}
 use mathlib.Core.List.{List}
 use Rattle.rules.specs.Rule.{rule}

@@ -5,13 +5,12 @@ use mathlib.Core.List.{List}
 use mathlib.Core.Bool.{Bool, true, false, not, _&&_}
 use native.Mathlib.Omega.{arith}
 use native.Mathlib.Nat.{mul-le-mul-right}
-use borrow.Author.Tests.{not-true, not-false}
+use borrow.Author.Tests.{not-true}
 use Rattle.rules.specs.Finite.{allBelow}
 use Rattle.rules.specs.Graph.{Graph}
 use Rattle.rules.specs.Rule.{Rule, rule}
-use Rattle.rules.specs.Levels.{sameEnds, sameSteps, twins, splitOk, agree, agreeAt}
-use Rattle.rules.proofs.Laws.Tests.{and-left, and-right, and-intro, not-true-of, not-both}
-use Rattle.rules.proofs.Laws.Loops.{all-not-at}
+use Rattle.rules.specs.Levels.{sameEnds, sameSteps, splitOk, agree, agreeAt}
+use Rattle.rules.proofs.Laws.Tests.{and-left, and-right, not-true-of, not-both}
 use Rattle.levels.specs.Needs.{Stands}
 
 module _ (ρ : Rule) (g : Graph) (i : ℕ) (T : ℕ → List ℕ) (v u x y : ℕ) where

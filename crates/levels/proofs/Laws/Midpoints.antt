@@ -1,9 +1,9 @@
 -- Lists of midpoints: what two of them tell of agreement, and one of the bucket.
-use Prim.Native.Nat.{ℕ, zero, suc, _+_, _*_, _/_, _%_, _≤_, _<_}
+use Prim.Native.Nat.{ℕ, zero, suc, _+_, _/_, _%_, _≤_, _<_}
 use mathlib.Core.Path.{_≡_, refl, sym, ap, ap₂, _∙_}
 use mathlib.Core.Logic.{⊎-elim}
 use mathlib.Core.List.{List}
-use mathlib.Core.Bool.{Bool, true, false, not, _&&_}
+use mathlib.Core.Bool.{Bool, false, not, _&&_}
 use native.Mathlib.Nat.{eq-zero-or-pos}
 use native.Mathlib.Omega.{arith}
 use lib.ListN.{length, getD, set, length-set}
@@ -12,7 +12,7 @@ use borrow.Author.Tests.{not-false}
 use Rattle.rules.specs.Finite.{allBelow}
 use Rattle.rules.specs.Graph.{Graph}
 use Rattle.rules.specs.Rule.{rule}
-use Rattle.rules.specs.Levels.{levelOf, numberAt, sameEnds, sameSteps, splitOk, agree}
+use Rattle.rules.specs.Levels.{levelOf, sameEnds, sameSteps, splitOk, agree}
 use Rattle.rules.proofs.Laws.Finite.{all-at, all-intro}
 use Rattle.rules.proofs.Laws.Loops.{all-start}
 use Rattle.rules.proofs.Laws.Tests.{same}

@@ -3,7 +3,7 @@ use Prim.Native.Nat.{ℕ, zero, suc, _+_, _*_, _-_, _/_, _%_, _≤_, _<_}
 use mathlib.Core.Path.{_≡_, refl, sym, ap, _∙_, fun-ext}
 use mathlib.Core.Logic.{⊎-elim}
 use mathlib.Core.List.{List}
-use mathlib.Core.Bool.{Bool, true, false, not, _&&_}
+use mathlib.Core.Bool.{Bool, true, not, _&&_}
 use native.Mathlib.Nat.{mul-le-mul-right, eq-or-lt-of-le}
 use native.Mathlib.Numerals.{add-one}
 use native.Mathlib.Omega.{arith}
@@ -14,16 +14,15 @@ use Rattle.rules.specs.Finite.{anyBelow}
 use Rattle.rules.specs.Graph.{connected}
 use Rattle.rules.specs.Rule.{rule}
 use Rattle.rules.specs.Levels.{numberAt, levelOf, levelOver, connectedAt, agreeAt, agree, firstOf, maxOf}
-use Rattle.rules.specs.Accept.{LevelAccepted, LevelsAccepted, numberOk, levelOk, firstFault}
+use Rattle.rules.specs.Accept.{LevelAccepted, LevelsAccepted, numberOk, levelOk}
 use Rattle.rules.specs.Writing.{put}
 use Rattle.rules.proofs.Laws.Accepted.{accepted-at}
 use Rattle.rules.proofs.Laws.Finite.{none-any}
-use Rattle.rules.proofs.Laws.Levels.{over-length}
 use Rattle.rules.proofs.Laws.Places.{row-lt, column-lt}
 use Rattle.rules.proofs.Laws.Put.{put-more, put-none, length-put}
 use Rattle.rules.proofs.Laws.Rules.{alone, midpoints, rule-above}
 use Rattle.levels.specs.Marks.{markedGraph}
-use Rattle.levels.specs.Needs.{Ready, Stands, Kept, Placed, Numbered, Faulty, base}
+use Rattle.levels.specs.Needs.{Ready, Stands, Numbered, Faulty, base}
 use Rattle.levels.specs.Repeat.{Repeats, Topped}
 use Rattle.levels.proofs.Laws.Numbers.{numbering-same}
 use Rattle.levels.proofs.Laws.Level.{level-kept}

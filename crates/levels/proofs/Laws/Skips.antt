@@ -10,7 +10,6 @@ use lib.Seq.{getD-set-same, getD-set-other, getD-take, getD-drop, take-take, dro
 use Rattle.rules.specs.Rule.{rule}
 use Rattle.rules.specs.Levels.{numberAt, levelOf}
 use Rattle.rules.proofs.Laws.Places.{place-lt, row-fits}
-use Rattle.rules.proofs.Laws.Tests.{order}
 use Rattle.levels.specs.Skips.{Next, Skips, Laid, SkipRow, Aside}
 use Rattle.levels.proofs.Laws.Tables.{rule-first}
 

@@ -1,5 +1,4 @@
 -- What the list tells of p is used (`held-old`); else it is made, and told of (`held-new`).
-use native.Mathlib.Omega.{arith}
 use borrow.Author.Needs.{needs}
 use lib.ListN.{length-set}
 use Rattle.levels.proofs.Laws.Midpoints.{held-old, held-new}

@@ -1,8 +1,6 @@
 -- The invariant: the two levels are the same at the first p positions.
 use Prim.Native.Nat.{ℕ, _+_, _*_, _-_, _≤_, _<_}
 use mathlib.Core.Path.{_≡_}
-use mathlib.Core.Logic.{⊎-elim}
-use native.Mathlib.Nat.{eq-or-lt-of-le}
 use native.Mathlib.Omega.{arith}
 use lib.ListN.{getD}
 use Rattle.levels.proofs.Laws.Repeat.{two-rooms, same-levels, alike-more}
