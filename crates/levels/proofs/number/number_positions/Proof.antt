@@ -22,12 +22,12 @@ use Rattle.levels.proofs.number.number_positions.Statement.{statement}
 use Rattle.levels.proofs.number.number_positions.Tie as tie
 
 abbrev Inv-loop : tie.InvT-loop
-Inv-loop n i levels₀ area₀ start other₀ top₀ p₀ levels area other top p =
+Inv-loop n i levels₀ area₀ start mine₀ other₀ top₀ p₀ levels area mine other top p =
     (p ≤ n * n) × (top ≤ p) × (top ≡ maxOf (numbering (isIn n i area₀) (alike n i levels₀ area₀) p)) × (levels ≡ put levels₀ (base n i) (numbering (isIn n i area₀) (alike n i levels₀ area₀) p))
-    × (Chains (isIn n i area₀) (alike n i levels₀ area₀) (bucketOf n i levels₀ area₀) n area p) × (Steady n area₀ area) × Held n i levels₀ other
+    × (Chains (isIn n i area₀) (alike n i levels₀ area₀) (bucketOf n i levels₀ area₀) n area p) × (Steady n area₀ area) × (Held n i levels₀ other) × (length mine ≡ 128)
 
 abbrev μ-loop : tie.MeasureT-loop
-μ-loop n i levels₀ area₀ start other₀ top₀ p₀ levels area other top p = n * n - p
+μ-loop n i levels₀ area₀ start mine₀ other₀ top₀ p₀ levels area mine other top p = n * n - p
 
 kept-size : (c : tie.At-loop Inv-loop μ-loop) → length (c .loop .levels) ≡ length (c .before .before .before .args .levels .now)
 kept-size c = same-size _ _ _ _ (c .before .before .before .pre .0) _ _ (c .loop .inv .3) (c .loop .inv .0)
@@ -47,7 +47,7 @@ mul-start-2 c = let a = c .before .before in omega (arith, base-next (a .args .n
 
 loop-holds : tie.Need-loop-holds Inv-loop μ-loop
 unfolding numbering maxOf
-loop-holds c = (omega arith, omega arith, refl, sym (put-none _ _), c .before .before .pre .2, steady-refl _ _, held-none _ _ _ _ refl (getD-zeros 130 128))
+loop-holds c = (omega arith, omega arith, refl, sym (put-none _ _), c .before .before .pre .2, steady-refl _ _, held-none _ _ _ _ refl (getD-zeros 130 128), refl)
 
 mul-loop : tie.Need-mul-loop Inv-loop μ-loop
 mul-loop c = let a = c .before .before .before in omega (arith, base-next (a .args .n) (a .args .i) (a .pre .0 .some))
@@ -55,40 +55,44 @@ mul-loop c = let a = c .before .before .before in omega (arith, base-next (a .ar
 slice-aggregate-next-number : tie.Need-slice-aggregate-next-number Inv-loop μ-loop
 slice-aggregate-next-number c = search needs
 
+slice-aggregate-next-number-2 : tie.Need-slice-aggregate-next-number-2 Inv-loop μ-loop
+slice-aggregate-next-number-2 c = search needs
+
 next-number-requires : tie.Need-next-number-requires Inv-loop μ-loop
 next-number-requires c κs =
-    let l = c .before .before .before .before in
+    let l = c .before .before .before .before .before in
     let a = l .before .before .before in
     let i = l .loop .inv in
     let r = a .pre .0 in (
       turn-ready _ _ _ _ r _ _ (i .3) (i .0) _ (i .5),
       near-steady _ _ _ _ (a .pre .1) (i .5),
       turn-begun _ _ _ _ r _ _ (i .3) (i .0) _ (i .5) _ (begun _ _ _ _ r _ _ (i .3) (i .0) _ (i .2) (i .1)),
-      c .before .before .before .loop-test .taken,
+      c .before .before .before .before .loop-test .taken,
       turn-chains _ _ _ _ r _ _ (i .3) (i .0) _ (i .5) _ _ (i .4),
       turn-laid _ _ _ _ r _ _ (i .3) (i .0) _ (i .5) (a .pre .3),
       held-kept _ _ _ _ _ (same-below _ _ _ _ r _ _ (i .3) (i .0)) (i .6),
+      omega (arith, i .7, r .few),
     )
 
 add-levels : tie.Need-add-levels Inv-loop μ-loop
-add-levels c = omega (arith, kept (c .before .before .before .before .before .before .before .before), kept-size (c .before .before .before .before .before .before .before .before))
+add-levels c = omega (arith, kept (c .before .before .before .before .before .before .before .before .before .before), kept-size (c .before .before .before .before .before .before .before .before .before .before))
 
 mul-levels : tie.Need-mul-levels Inv-loop μ-loop
-mul-levels c = omega (arith, kept (c .before .before .before .before .before .before .before .before), kept-size (c .before .before .before .before .before .before .before .before))
+mul-levels c = omega (arith, kept (c .before .before .before .before .before .before .before .before .before .before), kept-size (c .before .before .before .before .before .before .before .before .before .before))
 
 slice-write-levels : tie.Need-slice-write-levels Inv-loop μ-loop
-slice-write-levels c = omega (arith, kept (c .before .before .before .before .before .before .before .before), kept-size (c .before .before .before .before .before .before .before .before))
+slice-write-levels c = omega (arith, kept (c .before .before .before .before .before .before .before .before .before .before), kept-size (c .before .before .before .before .before .before .before .before .before .before))
 
 add-p : tie.Need-add-p Inv-loop μ-loop
-add-p c = let a = c .before .before .before .before .before .before .before .before .before .before .before .before in omega (arith, square-le (a .pre .0 .few))
+add-p c = let a = c .before .before .before .before .before .before .before .before .before .before .before .before .before .before in omega (arith, square-le (a .pre .0 .few))
 
 loop-less : tie.Need-loop-less Inv-loop μ-loop
 loop-less c = omega arith
 
 loop-again : tie.Need-loop-again Inv-loop μ-loop
 loop-again c =
-    let s = c .before .before .before .before in
-    let l = c .before .before .before .before .before .before .before .before .before in
+    let s = c .before .before .before .before .before in
+    let l = c .before .before .before .before .before .before .before .before .before .before .before in
     let a = l .before .before .before in
     let i = l .loop .inv in
     let r = a .pre .0 in
@@ -100,10 +104,11 @@ loop-again c =
       omega arith,
       omega arith,
       sym m ∙ max-next _ _ _ _ r _ _ (i .3) (i .0) k q _ (i .2),
-      write-next _ _ _ _ r _ _ (i .3) (i .0) k q (c .before .before .before .before .before .before .before .before .loop-test .taken),
+      write-next _ _ _ _ r _ _ (i .3) (i .0) k q (c .before .before .before .before .before .before .before .before .before .before .loop-test .taken),
       turn-back _ _ _ _ r _ _ (i .3) (i .0) _ (i .5) _ _ (d .chains),
       steady-trans _ _ _ _ (i .5) (d .steady),
       held-kept _ _ _ _ _ (λ j h. sym (same-below _ _ _ _ r _ _ (i .3) (i .0) j h)) (s .next-number .ensures .1),
+      search needs,
     )
 
 same-length : tie.Need-same-length Inv-loop μ-loop
@@ -132,6 +137,7 @@ number-positions-spec =
     loop-holds
     mul-loop
     slice-aggregate-next-number
+    slice-aggregate-next-number-2
     next-number-requires
     add-levels
     mul-levels
