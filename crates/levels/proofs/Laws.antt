@@ -1,13 +1,4 @@
--- The laws of the crate: marks, agreement, midpoints, the chains and numbering of a level, its check, and all levels, built or checked.
-pub mod Bits
-pub mod Marks
-pub mod Tables
-pub mod Areas
-pub mod Agreement
-pub mod Halves
-pub mod Skips
-pub mod Reach
-pub mod Rows
+-- Laws of the chains and the numbering of a level, its check, and all levels, built or checked.
 pub mod Numbers
 pub mod Level
 pub mod Right
@@ -17,8 +8,6 @@ pub mod Built
 pub mod Repeat
 pub mod Words
 pub mod Chains
-pub mod Signature
-pub mod Midpoints
 pub mod Walk
 pub mod Taken
 pub mod Turn

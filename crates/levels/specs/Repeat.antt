@@ -4,7 +4,7 @@ use mathlib.Core.Path.{_≡_}
 use mathlib.Core.List.{List}
 use Rattle.rules.specs.Rule.{rule}
 use Rattle.rules.specs.Levels.{levelOf, levelOver, maxOf}
-use Rattle.levels.specs.Marks.{markedGraph}
+use Rattle.twins.specs.Marks.{markedGraph}
 
 -- there are two levels below level i, and they are the same
 pub record Repeats (n i : ℕ) (levels : List ℕ) : Type 0 where

@@ -1,12 +1,13 @@
 // All levels, one over the other: built from the edge table, or checked against it.
 ghost use mathlib.Core.Path.{_≡_};
 ghost use Prim.Native.Nat.{ℕ, _*_, _<_, _≤_};
-ghost use Rattle.levels.specs.Needs.{EdgesFit, Room, Stacked, Judged, LevelsBuilt, LevelsChecked};
+ghost use Rattle.twins.specs.Standing.{EdgesFit};
+ghost use Rattle.levels.specs.Needs.{Room, Stacked, Judged, LevelsBuilt, LevelsChecked};
 use super::check::level_fault;
-use super::marks::mark_edges;
 use super::number::next_level;
 use rules::Checked;
 use rules::Refusal;
+use twins::marks::mark_edges;
 
 // Levels 1 to k are numbered, where the marks stand. Answers how many classes level k has.
 fn number_levels(n: usize, k: usize, levels: &mut [u32], area: &mut [u8]) -> u32

@@ -4,14 +4,14 @@ ghost use mathlib.Core.List.{List};
 ghost use Prim.Native.Nat.{ℕ, _+_, _*_, _/_, _%_, _<_, _≤_};
 ghost use lib.ListN.{length};
 ghost use Rattle.rules.specs.Writing.{fill};
-ghost use Rattle.levels.specs.Chains.{word, setWord, bucketOf, Chains, Answer};
-ghost use Rattle.levels.specs.Halves.{Midpoints, Held};
-ghost use Rattle.levels.specs.Needs.{Ready, isIn, alike};
-ghost use Rattle.levels.specs.Skips.{Laid};
-use super::agree::agree;
-use super::halves::kept_midpoints;
-use super::hashes::most_at;
-use super::marks::mark_at;
+ghost use Rattle.twins.specs.Chains.{word, setWord, bucketOf, Chains, Answer};
+ghost use Rattle.twins.specs.Halves.{Midpoints, Held};
+ghost use Rattle.twins.specs.Standing.{Ready, isIn, alike};
+ghost use Rattle.twins.specs.Skips.{Laid};
+use twins::agree::agree;
+use twins::halves::kept_midpoints;
+use twins::hashes::most_at;
+use twins::marks::mark_at;
 
 // Two bytes as one number.
 pub fn word_at(area: &[u8], at: usize) -> usize

@@ -6,20 +6,21 @@ ghost use lib.ListN.{length};
 ghost use Rattle.rules.specs.Rule.{rule};
 ghost use Rattle.rules.specs.Levels.{levelOf, agreeAt};
 ghost use Rattle.rules.specs.Accept.{levelOk};
-ghost use Rattle.levels.specs.Marks.{markedGraph};
-ghost use Rattle.levels.specs.Halves.{Held};
-ghost use Rattle.levels.specs.Needs.{Stands, Ready, Near, Seen, Firsts, Noted, Passed, Faulty};
+ghost use Rattle.twins.specs.Marks.{markedGraph};
+ghost use Rattle.twins.specs.Halves.{Held};
+ghost use Rattle.twins.specs.Standing.{Stands, Ready, Near};
+ghost use Rattle.levels.specs.Needs.{Seen, Firsts, Noted, Passed, Faulty};
 ghost use Rattle.levels.specs.Repeat.{Repeats};
-ghost use Rattle.levels.specs.Skips.{Laid};
-use super::agree::agree;
+ghost use Rattle.twins.specs.Skips.{Laid};
 use super::chains::set_word;
 use super::chains::word_at;
-use super::halves::kept_midpoints;
-use super::halves::midpoints;
-use super::near::mark_near;
 use super::repeat::repeats;
 use super::repeat::same_below;
-use super::skips::lay_out;
+use twins::agree::agree;
+use twins::halves::kept_midpoints;
+use twins::halves::midpoints;
+use twins::near::mark_near;
+use twins::skips::lay_out;
 
 // The pairs at p and q agree at level i. The midpoints of q stay in the other list.
 fn agree_at(

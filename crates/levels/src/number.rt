@@ -2,20 +2,21 @@
 ghost use mathlib.Core.Path.{_≡_};
 ghost use Prim.Native.Nat.{ℕ, _+_, _*_, _-_, _<_, _≤_};
 ghost use lib.ListN.{length};
-ghost use Rattle.levels.specs.Chains.{Chains, bucketOf};
-ghost use Rattle.levels.specs.Halves.{Held};
-ghost use Rattle.levels.specs.Needs.{Ready, Near, Begun, Taken, Positioned, Numbered, isIn, alike};
+ghost use Rattle.twins.specs.Chains.{Chains, bucketOf};
+ghost use Rattle.twins.specs.Halves.{Held};
+ghost use Rattle.twins.specs.Standing.{Ready, Near, isIn, alike};
+ghost use Rattle.levels.specs.Needs.{Begun, Taken, Positioned, Numbered};
 ghost use Rattle.levels.specs.Repeat.{Topped};
-ghost use Rattle.levels.specs.Skips.{Laid};
+ghost use Rattle.twins.specs.Skips.{Laid};
 use super::chains::add_head;
 use super::chains::bucket;
 use super::chains::clear_heads;
 use super::chains::find_alike;
-use super::halves::midpoints;
-use super::near::mark_near;
 use super::repeat::copy_below;
 use super::repeat::repeats;
-use super::skips::lay_out;
+use twins::halves::midpoints;
+use twins::near::mark_near;
+use twins::skips::lay_out;
 
 // The number of position p, where the numbers before it stand and top is the largest of them: that of an earlier position
 // that agrees, or a new one. Only positions of the same bucket are compared: alike positions share it.

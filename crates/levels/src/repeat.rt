@@ -5,7 +5,7 @@ ghost use mathlib.Core.Bool.{true};
 ghost use Prim.Native.Nat.{ℕ, _*_, _-_, _<_};
 ghost use Rattle.rules.specs.Levels.{levelOf};
 ghost use Rattle.rules.specs.Writing.{put};
-ghost use Rattle.levels.specs.Needs.{Stands, base};
+ghost use Rattle.twins.specs.Standing.{Stands, base};
 ghost use Rattle.levels.specs.Repeat.{Repeats};
 
 // Level i is the same as the level below it.

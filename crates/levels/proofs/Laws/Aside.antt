@@ -5,9 +5,10 @@ use mathlib.Core.List.{List}
 use native.Mathlib.Omega.{arith}
 use lib.ListN.{take}
 use lib.Seq.{take-take}
-use Rattle.levels.specs.Needs.{Ready, Kept, Numbered, Faulty}
-use Rattle.levels.specs.Skips.{Aside}
-use Rattle.levels.proofs.Laws.Areas.{edges-kept, ready-area, placed-kept}
+use Rattle.twins.specs.Standing.{Ready, Kept}
+use Rattle.levels.specs.Needs.{Numbered, Faulty}
+use Rattle.twins.specs.Skips.{Aside}
+use Rattle.twins.proofs.Laws.Areas.{edges-kept, ready-area, placed-kept}
 
 module _ (n : ℕ) (w w' : List ℕ) (a : Aside n w w') where
   aside-marks : take (n * n) w' ≡ take (n * n) w

@@ -9,8 +9,9 @@ use Rattle.rules.specs.declared.Checked.{Checked}
 use Rattle.rules.specs.Rule.{rule}
 use Rattle.rules.specs.Levels.{maxOf, levelOf}
 use Rattle.rules.specs.Outcomes.{front, told}
-use Rattle.levels.specs.Marks.{Marked}
-use Rattle.levels.specs.Needs.{Kept, Past, Stacked, Judged, LevelsBuilt, LevelsChecked}
+use Rattle.twins.specs.Marks.{Marked}
+use Rattle.twins.specs.Standing.{Kept}
+use Rattle.levels.specs.Needs.{Past, Stacked, Judged, LevelsBuilt, LevelsChecked}
 use Rattle.levels.proofs.Laws.Same.{marked-levels, marked-level, marked-right}
 
 module _ (n k : ℕ) (edges l w w' : List ℕ) (marked : Marked n edges w') (behind : drop (n * n) w' ≡ drop (n * n) w) (size : length w' ≡ length w) where

@@ -11,7 +11,7 @@ use Rattle.rules.specs.Finite.{anyBelow}
 use Rattle.rules.specs.Levels.{matches}
 use Rattle.rules.proofs.Laws.Tests.{and-left, and-right, not-true-of, not-both}
 use Rattle.rules.proofs.Laws.Finite.{any-find}
-use Rattle.levels.specs.Chains.{Linked, here, next, Met, Stored, Chains, linkOf, headOf}
+use Rattle.twins.specs.Chains.{Linked, here, next, Met, Stored, Chains, linkOf, headOf}
 
 -- the first position of a chain, and the rest
 pub linked-cases : (link : ℕ → ℕ) {s x : ℕ} → Linked link s x → (q : ℕ) × (s ≡ suc q) × ((x ≡ q) ⊎ Linked link (link q) x)

@@ -17,7 +17,7 @@ use Rattle.rules.proofs.Laws.Tests.{order}
 use Rattle.rules.proofs.Laws.Finite.{none-any}
 use Rattle.rules.proofs.Laws.Builder.{at-refl}
 use Rattle.rules.proofs.Laws.Numbering.{max-bounds}
-use Rattle.levels.specs.Chains.{word, setWord}
+use Rattle.twins.specs.Chains.{word, setWord}
 use Rattle.levels.specs.Needs.{Steady, Firsts, Noted}
 use Rattle.levels.proofs.Laws.Words.{length-word, word-same, word-below, take-word, drop-word}
 use Rattle.levels.proofs.Laws.Right.{hasNumber, first-self, right-high, right-agree}

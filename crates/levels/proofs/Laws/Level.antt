@@ -13,9 +13,10 @@ use Rattle.rules.proofs.Laws.Put.{put-more, put-read, length-put}
 use Rattle.rules.proofs.Laws.Agree.{agree-below}
 use Rattle.rules.proofs.Laws.Builder.{accepted-same}
 use Rattle.rules.proofs.Laws.Numbering.{numbering-length}
-use Rattle.levels.specs.Marks.{markedGraph}
-use Rattle.levels.specs.Needs.{Ready, Begun, base, isIn, alike}
-use Rattle.levels.proofs.Laws.Tables.{base-next}
+use Rattle.twins.specs.Marks.{markedGraph}
+use Rattle.twins.specs.Standing.{Ready, base, isIn, alike}
+use Rattle.levels.specs.Needs.{Begun}
+use Rattle.twins.proofs.Laws.Tables.{base-next}
 use Rattle.rules.proofs.Laws.Dense.{max-snoc}
 use Rattle.levels.proofs.Laws.Numbers.{numbering-more, next-le}
 

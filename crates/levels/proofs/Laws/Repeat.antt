@@ -21,15 +21,16 @@ use Rattle.rules.proofs.Laws.Finite.{none-any}
 use Rattle.rules.proofs.Laws.Places.{row-lt, column-lt}
 use Rattle.rules.proofs.Laws.Put.{put-more, put-none, length-put}
 use Rattle.rules.proofs.Laws.Rules.{alone, midpoints, rule-above}
-use Rattle.levels.specs.Marks.{markedGraph}
-use Rattle.levels.specs.Needs.{Ready, Stands, Numbered, Faulty, base}
+use Rattle.twins.specs.Marks.{markedGraph}
+use Rattle.twins.specs.Standing.{Ready, Stands, base}
+use Rattle.levels.specs.Needs.{Numbered, Faulty}
 use Rattle.levels.specs.Repeat.{Repeats, Topped}
 use Rattle.levels.proofs.Laws.Numbers.{numbering-same}
 use Rattle.levels.proofs.Laws.Level.{level-kept}
-use Rattle.levels.proofs.Laws.Reach.{reach, reach-suc}
+use Rattle.twins.proofs.Laws.Reach.{reach, reach-suc}
 use Rattle.levels.proofs.Laws.Right.{isFault, fault-no, fault-none}
 use Rattle.levels.proofs.Laws.Stack.{kept-refl}
-use Rattle.levels.proofs.Laws.Tables.{base-next, place-get, level-length}
+use Rattle.twins.proofs.Laws.Tables.{base-next, place-get, level-length}
 
 -- level j+3 over the equal levels j+2 and j+1
 module _ (n : ℕ) (levels area : List ℕ) (j : ℕ) (e : levelOf n levels (suc (suc j)) ≡ levelOf n levels (suc j))

@@ -19,9 +19,9 @@ use Rattle.rules.proofs.Laws.Finite.{any-same, none-any}
 use Rattle.rules.proofs.Laws.Places.{place-lt, place-row, place-column, row-lt, column-lt}
 use Rattle.rules.proofs.Laws.Graph.{leads-forward, leads-backward, adjacent-leads, leads-adjacent}
 use Rattle.rules.proofs.Laws.Accepted.{first-of-lt}
-use Rattle.levels.specs.Marks.{markedEdge, markedGraph, Marked}
-use Rattle.levels.specs.Needs.{EdgesFit}
-use Rattle.levels.proofs.Laws.Marks.{label-of, leads-same, same-leads, edge-bit}
+use Rattle.twins.specs.Marks.{markedEdge, markedGraph, Marked}
+use Rattle.twins.specs.Standing.{EdgesFit}
+use Rattle.twins.proofs.Laws.Marks.{label-of, leads-same, same-leads, edge-bit}
 use Rattle.levels.proofs.Laws.Numbers.{first-same, numbering-same}
 
 module _ (n labels : ℕ) (e f : ℕ → ℕ → ℕ → Bool) (few : labels ≤ 8)

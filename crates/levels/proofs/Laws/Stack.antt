@@ -24,13 +24,14 @@ use Rattle.rules.proofs.Laws.Agree.{agree-below}
 use Rattle.rules.proofs.Laws.Levels.{level-front, levels-size, over-length, stack-top, level-written, level-is}
 use Rattle.rules.proofs.Laws.Builder.{accepted-same, written-accepted}
 use Rattle.rules.proofs.Laws.Verdict.{good-or-else, both-good, good-when}
-use Rattle.levels.specs.Marks.{markedGraph}
-use Rattle.levels.specs.Needs.{Ready, Room, Kept, Placed, Faulty, Judged, base}
+use Rattle.twins.specs.Marks.{markedGraph}
+use Rattle.twins.specs.Standing.{Ready, Kept, Placed, base}
+use Rattle.levels.specs.Needs.{Room, Faulty, Judged}
 use Rattle.levels.specs.Repeat.{Topped}
 use Rattle.rules.proofs.Laws.Faults.{right-accepted}
 use Rattle.rules.proofs.Laws.Fronts.{front-length}
-use Rattle.levels.proofs.Laws.Tables.{less-one}
-use Rattle.levels.proofs.Laws.Areas.{edges-kept, ready-area}
+use Rattle.twins.proofs.Laws.Tables.{less-one}
+use Rattle.twins.proofs.Laws.Areas.{edges-kept, ready-area}
 
 -- writing behind a front
 front-more : (b s l : List ℕ) → put (front b l) (length b) s ≡ front (b ++ s) l

@@ -11,12 +11,13 @@ use Rattle.rules.specs.Rule.{rule}
 use Rattle.rules.specs.Levels.{levelOf}
 use Rattle.rules.proofs.Laws.Tests.{order}
 use Rattle.rules.proofs.Laws.Builder.{at-refl, at-sym, at-trans}
-use Rattle.levels.specs.Marks.{markedGraph}
-use Rattle.levels.specs.Chains.{word, setWord, linkOf, headOf, Chains, Answer, bucketOf}
-use Rattle.levels.specs.Needs.{Begun, Steady, Taken, base, isIn, alike}
+use Rattle.twins.specs.Marks.{markedGraph}
+use Rattle.twins.specs.Chains.{word, setWord, linkOf, headOf, Chains, Answer, bucketOf}
+use Rattle.twins.specs.Standing.{base, isIn, alike}
+use Rattle.levels.specs.Needs.{Begun, Steady, Taken}
 use Rattle.levels.proofs.Laws.Words.{length-word, word-same, word-above, word-below, take-word, drop-word}
 use Rattle.levels.proofs.Laws.Chains.{chains-out, chains-old, chains-new}
-use Rattle.levels.proofs.Laws.Signature.{bucket-same, bucket-lt}
+use Rattle.twins.proofs.Laws.Signature.{bucket-same, bucket-lt}
 use Rattle.levels.proofs.Laws.Numbers.{next-out, next-alike, next-none}
 use Rattle.levels.proofs.Laws.Level.{part-at}
 

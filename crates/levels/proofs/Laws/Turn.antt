@@ -16,15 +16,16 @@ use Rattle.rules.specs.Writing.{put, fill}
 use Rattle.rules.proofs.Laws.Tests.{either}
 use Rattle.rules.proofs.Laws.Writing.{getD-fill-in, length-fill}
 use Rattle.rules.specs.Accept.{levelOk}
-use Rattle.levels.specs.Marks.{markedGraph}
-use Rattle.levels.specs.Chains.{Chains, word, headOf, keyOf, splitMost, mostOf, bucketOf}
-use Rattle.levels.specs.Skips.{Laid}
-use Rattle.levels.specs.Needs.{Ready, Near, Begun, Kept, Steady, Positioned, Numbered, Passed, Faulty, base, isIn, alike, nearByte}
-use Rattle.levels.proofs.Laws.Areas.{edges-kept, byte-kept, ready-area, placed-kept, take-fill, drop-fill-at, near-kept}
+use Rattle.twins.specs.Marks.{markedGraph}
+use Rattle.twins.specs.Chains.{Chains, word, headOf, keyOf, splitMost, mostOf, bucketOf}
+use Rattle.twins.specs.Skips.{Laid}
+use Rattle.twins.specs.Standing.{Ready, Near, Kept, base, isIn, alike, nearByte}
+use Rattle.levels.specs.Needs.{Begun, Steady, Positioned, Numbered, Passed, Faulty}
+use Rattle.twins.proofs.Laws.Areas.{edges-kept, byte-kept, ready-area, placed-kept, take-fill, drop-fill-at, near-kept}
 use Rattle.levels.proofs.Laws.Level.{numbers, still-ready, same-below, same-alike}
 use Rattle.levels.proofs.Laws.Chains.{chains-start}
 use Rattle.levels.proofs.Laws.Taken.{steady-trans}
-use Rattle.levels.proofs.Laws.Skips.{laid-kept}
+use Rattle.twins.proofs.Laws.Skips.{laid-kept}
 
 pub steady-marks : (n : ℕ) (w w' : List ℕ) → Steady n w w' → take (n * n) w' ≡ take (n * n) w
 steady-marks n w w' s =

@@ -8,12 +8,12 @@ use lib.ListN.{getD}
 use Rattle.rules.specs.Rule.{rule}
 use Rattle.rules.specs.Levels.{agree, levelOf}
 use Rattle.rules.proofs.Laws.Builder.{at-trans}
-use Rattle.levels.specs.Marks.{markedGraph}
-use Rattle.levels.specs.Needs.{isIn, alike}
-use Rattle.levels.specs.Chains.{word, linkOf, headOf, Linked, Met, Chains, Answer, bucketOf}
-use Rattle.levels.proofs.Laws.Agreement.{at-is}
+use Rattle.twins.specs.Marks.{markedGraph}
+use Rattle.twins.specs.Standing.{isIn, alike}
+use Rattle.twins.specs.Chains.{word, linkOf, headOf, Linked, Met, Chains, Answer, bucketOf}
+use Rattle.twins.proofs.Laws.Agreement.{at-is}
 use Rattle.levels.proofs.Laws.Chains.{first-met, rest-met, rest-ahead, answer-none}
-use Rattle.levels.proofs.Laws.Signature.{bucket-same}
+use Rattle.twins.proofs.Laws.Signature.{bucket-same}
 
 -- where the walk stands: what it may still meet, and that it has passed nothing alike p
 pub record Ahead (n i : ℕ) (levels area : List ℕ) (p b s : ℕ) : Type 0 where

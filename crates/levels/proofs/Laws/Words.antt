@@ -5,7 +5,7 @@ use mathlib.Core.List.{List}
 use native.Mathlib.Omega.{arith}
 use lib.ListN.{length, getD, take, drop, set, length-set}
 use lib.Seq.{getD-set-same, getD-set-other, take-set-le, drop-set-lt}
-use Rattle.levels.specs.Chains.{word, setWord}
+use Rattle.twins.specs.Chains.{word, setWord}
 
 module _ (w : List ℕ) (at x : ℕ) where
   pub length-word : length (setWord w at x) ≡ length w

@@ -23,7 +23,8 @@ use Rattle.rules.proofs.Laws.Links.{SizesFit, sizes-fit, LevelsFit, levels-fit,
 use Rattle.rules.proofs.Laws.Calls.{BuildPassed, build-passed}
 use Rattle.rules.proofs.Laws.Levels.{level-size, level-front, levels-size, level-written}
 use Rattle.rules.proofs.Laws.Builder.{level-ok}
-use Rattle.levels.specs.Needs.{EdgesFit, Room, Past}
+use Rattle.twins.specs.Standing.{EdgesFit}
+use Rattle.levels.specs.Needs.{Room, Past}
 use Rattle.sorting.specs.Sort.{Contiguous, AtMost, Fills}
 use Rattle.lists.specs.Walks.{Listing, Listed}
 use Rattle.sorting.proofs.Laws.Sorting.{upTo-le}

@@ -24,7 +24,8 @@ use Rattle.rules.proofs.Laws.Faults.{right-accepted}
 use Rattle.rules.proofs.Laws.Accepted.{accepted-at}
 use Rattle.rules.proofs.Laws.Calls.{Passed, passed, top-length}
 use Rattle.rules.proofs.Theorems.Acceptance.{check-worked, check-refused}
-use Rattle.levels.specs.Needs.{EdgesFit, Room}
+use Rattle.twins.specs.Standing.{EdgesFit}
+use Rattle.levels.specs.Needs.{Room}
 use Rattle.relations.specs.Relations.{Frame}
 use Rattle.lists.specs.Walks.{Compared}
 use Rattle.sorting.specs.Counters.{Matching, Matches}

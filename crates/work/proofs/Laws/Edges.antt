@@ -3,7 +3,7 @@ use Prim.Native.Nat.{ℕ, _≤_}
 use mathlib.Core.List.{List}
 use native.Mathlib.Omega.{arith}
 use Rattle.rules.proofs.Laws.Links.{EdgesIn}
-use Rattle.levels.specs.Needs.{EdgesFit}
+use Rattle.twins.specs.Standing.{EdgesFit}
 use Rattle.relations.specs.Relations.{EdgesIn as Inside}
 
 module _ (n labels : ℕ) (edges : List ℕ) (fit : EdgesIn n labels edges) where

@@ -8,8 +8,8 @@ use Rattle.rules.specs.Levels.{levelOf}
 use Rattle.rules.specs.Accept.{levelsRight}
 use Rattle.rules.specs.Verdict.{good}
 use Rattle.rules.proofs.Laws.Places.{square-le}
-use Rattle.levels.specs.Marks.{markedGraph}
-use Rattle.levels.specs.Needs.{Kept}
+use Rattle.twins.specs.Marks.{markedGraph}
+use Rattle.twins.specs.Standing.{Kept}
 use Rattle.levels.proofs.Laws.Stack.{kept-refl, kept-trans, right-start, right-more, right-ready, judged-fault, judged-good, fault-kept}
 use Rattle.levels.proofs.all.judge_levels.Statement.{statement}
 use Rattle.levels.proofs.all.judge_levels.Tie as tie

@@ -7,9 +7,9 @@ use lib.ListN.{length}
 use Rattle.rules.specs.Rule.{rule}
 use Rattle.rules.specs.Levels.{maxOf, builtLevel, builtLevels}
 use Rattle.rules.specs.Outcomes.{front}
-use Rattle.levels.specs.Marks.{markedGraph}
-use Rattle.levels.specs.Needs.{Kept}
-use Rattle.levels.proofs.Laws.Areas.{ready-area, placed-kept}
+use Rattle.twins.specs.Marks.{markedGraph}
+use Rattle.twins.specs.Standing.{Kept}
+use Rattle.twins.proofs.Laws.Areas.{ready-area, placed-kept}
 use Rattle.levels.proofs.Laws.Stack.{kept-refl, kept-trans, front-start, count-start, front-size, front-ready, front-topped, front-written, front-count}
 use Rattle.levels.proofs.all.number_levels.Statement.{statement}
 use Rattle.levels.proofs.all.number_levels.Tie as tie

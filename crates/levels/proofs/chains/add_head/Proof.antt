@@ -4,7 +4,7 @@ use mathlib.Core.Path.{ap, _∙_}
 use mathlib.Core.List.{List}
 use native.Mathlib.Omega.{arith}
 use Rattle.rules.proofs.Laws.Places.{square-le}
-use Rattle.levels.specs.Chains.{setWord}
+use Rattle.twins.specs.Chains.{setWord}
 use borrow.Author.Needs.{needs}
 use Rattle.levels.proofs.chains.add_head.Statement.{statement}
 use Rattle.levels.proofs.chains.add_head.Tie as tie

@@ -4,7 +4,7 @@ use lib.ListN.{getD}
 use native.Mathlib.Nat.{mod-lt}
 use native.Mathlib.Omega.{arith}
 use Rattle.rules.proofs.Laws.Places.{some-items, row-lt, column-lt}
-use Rattle.levels.proofs.Laws.Signature.{bucket-is}
+use Rattle.twins.proofs.Laws.Signature.{bucket-is}
 use borrow.Author.Needs.{needs}
 use Rattle.levels.proofs.chains.bucket.Statement.{statement}
 use Rattle.levels.proofs.chains.bucket.Tie as tie

@@ -4,7 +4,7 @@ use mathlib.Core.Path.{sym, _∙_}
 use native.Mathlib.Omega.{arith}
 use lib.ListN.{getD}
 use Rattle.rules.proofs.Laws.Places.{some-items, row-lt, column-lt}
-use Rattle.levels.specs.Halves.{Held}
+use Rattle.twins.specs.Halves.{Held}
 use Rattle.levels.proofs.Laws.Walk.{Ahead, walk-start, walk-met, walk-less, walk-next, walk-found, walk-none}
 use Rattle.levels.proofs.chains.find_alike.Statement.{statement}
 use Rattle.levels.proofs.chains.find_alike.Tie as tie

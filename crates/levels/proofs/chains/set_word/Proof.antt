@@ -1,6 +1,6 @@
 -- Two stores by the definition of `setWord`; remainder and quotient by 256 are bytes since x is below 65536.
 use mathlib.Core.Path.{refl}
-use Rattle.levels.specs.Chains.{setWord}
+use Rattle.twins.specs.Chains.{setWord}
 use borrow.Author.Needs.{needs}
 use Rattle.levels.proofs.chains.set_word.Statement.{statement}
 use Rattle.levels.proofs.chains.set_word.Tie as tie

@@ -2,7 +2,7 @@
 use Prim.Native.Nat.{_+_}
 use mathlib.Core.Path.{refl}
 use native.Mathlib.Omega.{arith}
-use Rattle.levels.specs.Chains.{word}
+use Rattle.twins.specs.Chains.{word}
 use borrow.Author.Needs.{needs}
 use Rattle.levels.proofs.chains.word_at.Statement.{statement}
 use Rattle.levels.proofs.chains.word_at.Tie as tie

@@ -3,7 +3,7 @@ use native.Mathlib.Omega.{arith}
 use mathlib.Core.Path.{_∙_}
 use borrow.Author.Needs.{needs}
 use Rattle.rules.proofs.Laws.Places.{some-items, row-lt, column-lt}
-use Rattle.levels.proofs.Laws.Agreement.{at-is}
+use Rattle.twins.proofs.Laws.Agreement.{at-is}
 use Rattle.levels.proofs.check.agree_at.Statement.{statement}
 use Rattle.levels.proofs.check.agree_at.Tie as tie
 

@@ -1,5 +1,5 @@
 -- What is laid out and the bytes of connected pairs leave the marks alone, so the first fault found over them is that of the area at entry.
-use Rattle.levels.proofs.Laws.Areas.{near-ready}
+use Rattle.twins.proofs.Laws.Areas.{near-ready}
 use Rattle.levels.proofs.Laws.Turn.{laid-near, level-faulty}
 use Rattle.levels.proofs.Laws.Aside.{ready-aside, faulty-aside}
 use borrow.Author.Needs.{needs}

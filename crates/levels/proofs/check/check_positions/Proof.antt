@@ -11,15 +11,15 @@ use Rattle.rules.specs.Levels.{levelOf, maxOf}
 use Rattle.rules.proofs.Laws.Loops.{any-start, any-more}
 use Rattle.rules.proofs.Laws.Places.{square-le}
 use Rattle.rules.proofs.Laws.Writing.{getD-zeros}
-use Rattle.levels.specs.Marks.{markedGraph}
+use Rattle.twins.specs.Marks.{markedGraph}
 use Rattle.levels.specs.Needs.{Firsts, Steady}
-use Rattle.levels.specs.Halves.{Held}
-use Rattle.levels.proofs.Laws.Areas.{ready-area}
-use Rattle.levels.proofs.Laws.Tables.{base-next, place-get, level-length}
+use Rattle.twins.specs.Halves.{Held}
+use Rattle.twins.proofs.Laws.Areas.{ready-area}
+use Rattle.twins.proofs.Laws.Tables.{base-next, place-get, level-length}
 use Rattle.levels.proofs.Laws.Right.{isFault, fault-yes, fault-no, fault-found, fault-none, right-small, max-take}
 use Rattle.levels.proofs.Laws.Taken.{steady-refl, steady-trans}
 use Rattle.levels.proofs.Laws.Turn.{steady-marks, near-steady, laid-steady, ok-kept}
-use Rattle.levels.proofs.Laws.Midpoints.{held-none}
+use Rattle.twins.proofs.Laws.Midpoints.{held-none}
 use Rattle.levels.proofs.Laws.Firsts.{firsts-start, note-steady, note-firsts}
 use Rattle.levels.proofs.check.check_positions.Statement.{statement}
 use Rattle.levels.proofs.check.check_positions.Tie as tie

@@ -7,9 +7,9 @@ use Rattle.rules.specs.Rule.{rule}
 use Rattle.rules.specs.Levels.{levelOf, agreeAt, firstOf}
 use Rattle.rules.proofs.Laws.Places.{square-le}
 use Rattle.rules.proofs.Laws.Accepted.{first-of-lt}
-use Rattle.levels.specs.Marks.{markedGraph}
-use Rattle.levels.proofs.Laws.Tables.{base-next, place-get}
-use Rattle.levels.proofs.Laws.Reach.{byte-set, byte-clear}
+use Rattle.twins.specs.Marks.{markedGraph}
+use Rattle.twins.proofs.Laws.Tables.{base-next, place-get}
+use Rattle.twins.proofs.Laws.Reach.{byte-set, byte-clear}
 use Rattle.levels.proofs.Laws.Right.{right-out, right-zero, right-agree}
 use Rattle.levels.proofs.Laws.Firsts.{right-new, first-read}
 use borrow.Author.Needs.{needs}

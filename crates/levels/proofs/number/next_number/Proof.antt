@@ -3,8 +3,8 @@ use Prim.Native.Nat.{ℕ, _<_}
 use native.Mathlib.Omega.{arith}
 use lib.ListN.{getD}
 use Rattle.rules.proofs.Laws.Places.{square-le}
-use Rattle.levels.proofs.Laws.Tables.{base-next}
-use Rattle.levels.proofs.Laws.Reach.{byte-set, byte-clear}
+use Rattle.twins.proofs.Laws.Tables.{base-next}
+use Rattle.twins.proofs.Laws.Reach.{byte-set, byte-clear}
 use Rattle.levels.proofs.Laws.Taken.{taken-out, taken-old, taken-new}
 use borrow.Author.Needs.{needs}
 use Rattle.levels.proofs.number.next_number.Statement.{statement}

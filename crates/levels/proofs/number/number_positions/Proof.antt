@@ -10,12 +10,13 @@ use Rattle.rules.specs.Writing.{put}
 use Rattle.rules.proofs.Laws.Put.{put-none}
 use Rattle.rules.proofs.Laws.Places.{square-le}
 use Rattle.rules.proofs.Laws.Writing.{getD-zeros}
-use Rattle.levels.specs.Chains.{Chains, bucketOf}
-use Rattle.levels.specs.Halves.{Held}
-use Rattle.levels.specs.Needs.{Steady, isIn, alike, base}
-use Rattle.levels.proofs.Laws.Tables.{base-next}
+use Rattle.twins.specs.Chains.{Chains, bucketOf}
+use Rattle.twins.specs.Halves.{Held}
+use Rattle.twins.specs.Standing.{isIn, alike, base}
+use Rattle.levels.specs.Needs.{Steady}
+use Rattle.twins.proofs.Laws.Tables.{base-next}
 use Rattle.levels.proofs.Laws.Level.{ends, same-size, same-below, begun, write-next, max-next, next-small}
-use Rattle.levels.proofs.Laws.Midpoints.{held-none, held-kept}
+use Rattle.twins.proofs.Laws.Midpoints.{held-none, held-kept}
 use Rattle.levels.proofs.Laws.Taken.{steady-refl, steady-trans}
 use Rattle.levels.proofs.Laws.Turn.{near-steady, turn-ready, turn-laid, turn-begun, turn-chains, turn-back, turn-number}
 use Rattle.levels.proofs.number.number_positions.Statement.{statement}

@@ -5,7 +5,7 @@ use native.Mathlib.Omega.{arith}
 use lib.ListN.{take}
 use Rattle.rules.specs.Levels.{levelOf}
 use Rattle.rules.specs.Writing.{put}
-use Rattle.levels.specs.Needs.{base}
+use Rattle.twins.specs.Standing.{base}
 use Rattle.levels.proofs.Laws.Repeat.{two-rooms, copy-start, copy-size, copy-more, copy-done}
 use Rattle.levels.proofs.repeat.copy_below.Statement.{statement}
 use Rattle.levels.proofs.repeat.copy_below.Tie as tie

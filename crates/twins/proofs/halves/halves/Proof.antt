@@ -1,0 +1,149 @@
+-- The invariant: the first k of the list are just the midpoints among the first m items; one equal to the last is listed already.
+use Prim.Native.Nat.{_-_, _≤_, _<_}
+use mathlib.Core.Path.{_≡_, refl}
+use native.Mathlib.Omega.{arith}
+use borrow.Author.Needs.{needs}
+use lib.ListN.{length, length-set}
+use Rattle.rules.specs.Levels.{numberAt, levelOf}
+use Rattle.twins.specs.Halves.{Halves}
+use Rattle.twins.specs.Skips.{Next}
+use Rattle.twins.proofs.Laws.Halves.{halves-start, halves-skip, halves-second, halves-old, halves-new}
+use Rattle.twins.proofs.halves.halves.Statement.{statement}
+use Rattle.twins.proofs.halves.halves.Tie as tie
+
+abbrev Inv-loop : tie.InvT-loop
+Inv-loop n levels first second area v u list₀ k₀ m₀ list k m = (m ≤ n) × (Halves n (levelOf n levels first) (levelOf n levels second) v u m k list) × (length list ≡ length list₀)
+
+abbrev μ-loop : tie.MeasureT-loop
+μ-loop n levels first second area v u list₀ k₀ m₀ list k m = n - m
+
+-- what the row tells of item m
+ahead : (c : tie.After-next-from Inv-loop μ-loop) → Next (c .before .before .before .before .before .before .args .n) (levelOf (c .before .before .before .before .before .before .args .n) (c .before .before .before .before .before .before .args .levels .now) (c .before .before .before .before .before .before .args .first)) (c .before .before .before .before .before .before .args .v) (c .before .before .loop .m) (c .next-from .result)
+ahead c =
+    let a = c .before .before .before .before .before .before in
+    rw (c .next-from .ensures) (a .pre .4 .next-at _ _ (a .pre .2 .first) (c .before .loop-test .taken))
+
+-- an item that is its own next is connected
+some : (c : tie.Else1 Inv-loop μ-loop) → 0 < numberAt (c .before .before .before .before .before .before .before .args .n) (levelOf (c .before .before .before .before .before .before .before .args .n) (c .before .before .before .before .before .before .before .args .levels .now) (c .before .before .before .before .before .before .before .args .first)) (c .before .before .before .before .before .before .before .args .v) (c .before .before .before .loop .m)
+some c = rw (c .if1 .left) at (ahead (c .before) .some (omega (arith, c .if1 .left, c .before .before .loop-test .taken)))
+
+loop-holds : tie.Need-loop-holds Inv-loop μ-loop
+loop-holds c = (omega arith, halves-start _ _ _ _ _ _ (c .before .before .before .pre .3), refl)
+
+next-from-requires : tie.Need-next-from-requires Inv-loop μ-loop
+next-from-requires c κs =
+    let a = c .before .before .before .before .before in
+    (a .pre .4 .room, record { first = a .pre .2 .first; second = c .loop-test .taken })
+
+loop-less : tie.Need-loop-less Inv-loop μ-loop
+loop-less c = let f = c .before in omega (arith, ahead f .up, ahead f .few, c .if1 .taken)
+
+loop-again : tie.Need-loop-again Inv-loop μ-loop
+loop-again c =
+    let f = c .before in
+    let l = f .before .before .loop in
+    (ahead f .few, halves-skip _ _ _ _ _ _ _ _ (l .inv .1) _ (ahead f), l .inv .2)
+
+number-at-requires : tie.Need-number-at-requires Inv-loop μ-loop
+number-at-requires c κs =
+    let t = c .before .before in
+    let a = t .before .before .before .before .before in
+    (a .pre .0, record { first = a .pre .2 .first; second = t .loop-test .taken })
+
+number-at-requires-2 : tie.Need-number-at-requires-2 Inv-loop μ-loop
+number-at-requires-2 c κs =
+    let t = c .before .before .before in
+    let a = t .before .before .before .before .before in
+    (a .pre .1, record { first = t .loop-test .taken; second = a .pre .2 .second })
+
+add-m : tie.Need-add-m Inv-loop μ-loop
+add-m c = omega arith
+
+loop-less-2 : tie.Need-loop-less-2 Inv-loop μ-loop
+loop-less-2 c = omega arith
+
+loop-again-2 : tie.Need-loop-again-2 Inv-loop μ-loop
+loop-again-2 c =
+    let b = c .before in
+    let l = b .before .before .before .before .before .loop in
+    (omega arith, halves-second _ _ _ _ _ _ _ _ (l .inv .1) (b .number-at2 .ensures) (c .if2 .taken), l .inv .2)
+
+pair-of-requires : tie.Need-pair-of-requires Inv-loop μ-loop
+pair-of-requires c κs = search needs
+
+is-last-requires : tie.Need-is-last-requires Inv-loop μ-loop
+is-last-requires c κs =
+    let l = c .before .before .before .before .before .before .before .before .loop in
+    omega (arith, l .inv .1 .few, l .inv .1 .room)
+
+loop-less-3 : tie.Need-loop-less-3 Inv-loop μ-loop
+loop-less-3 c = omega arith
+
+loop-again-3 : tie.Need-loop-again-3 Inv-loop μ-loop
+loop-again-3 c =
+    let p = c .before .before .before in
+    let b = p .before .before in
+    let a = b .before in
+    let l = a .before .before .before .before .loop in
+    (omega arith, halves-old _ _ _ _ _ _ _ _ (l .inv .1) (a .number-at .ensures) (b .number-at2 .ensures) (p .pair-of .ensures) (c .before .is-last .ensures (c .if3 .taken)), l .inv .2)
+
+mul-list : tie.Need-mul-list Inv-loop μ-loop
+mul-list c = let l = c .before .before .before .before .before .before .before .before .before .before in omega (arith, l .loop .inv .1 .few, l .loop .inv .1 .room)
+
+slice-write-list : tie.Need-slice-write-list Inv-loop μ-loop
+slice-write-list c = let l = c .before .before .before .before .before .before .before .before .before .before in omega (arith, l .loop .inv .1 .few, l .loop .inv .1 .room)
+
+add-k : tie.Need-add-k Inv-loop μ-loop
+add-k c = let l = c .before .before .before .before .before .before .before .before .before .before in omega (arith, l .loop .inv .1 .few, l .loop .inv .1 .room)
+
+loop-less-4 : tie.Need-loop-less-4 Inv-loop μ-loop
+loop-less-4 c = omega arith
+
+loop-again-4 : tie.Need-loop-again-4 Inv-loop μ-loop
+loop-again-4 c =
+    let p = c .before .before .before in
+    let b = p .before .before in
+    let a = b .before in
+    let e = a .before in
+    let t = e .before .before in
+    let l = t .before .loop in (
+      omega arith,
+      halves-new _ _ _ _ _ _ _ _ (l .inv .1) (a .number-at .ensures) (b .number-at2 .ensures) (p .pair-of .ensures) (some e) (p .before .if2 .left) (t .loop-test .taken),
+      simp length-set (l .inv .2),
+    )
+
+same-length : tie.Need-same-length Inv-loop μ-loop
+same-length c = c .before .loop .inv .2
+
+returns : tie.Need-returns Inv-loop μ-loop
+returns c =
+    let l = c .before .loop in
+    let e : l .m ≡ c .before .before .before .before .before .args .n = omega arith in
+    rw e at (l .inv .1)
+
+pub halves-spec : {M : Type 1} → statement M
+halves-spec =
+    tie.close
+    (tie.spec
+    Inv-loop
+    μ-loop
+    loop-holds
+    next-from-requires
+    loop-less
+    loop-again
+    number-at-requires
+    number-at-requires-2
+    add-m
+    loop-less-2
+    loop-again-2
+    pair-of-requires
+    is-last-requires
+    loop-less-3
+    loop-again-3
+    mul-list
+    slice-write-list
+    add-k
+    loop-less-4
+    loop-again-4
+    same-length
+    returns)
