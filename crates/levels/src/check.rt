@@ -30,15 +30,15 @@ fn agree_at(
     area: &[u8],
     p: usize,
     q: usize,
+    mine: &mut [u64],
     other: &mut [u64],
 ) -> bool
-    requires { ⌜ (Ready n i (now levels) (now area)) × (p < n * n) × (q < n * n) × (Laid n i (now levels) (now area)) × (Held n i (now levels) (now other)) ⌝ }
+    requires { ⌜ (Ready n i (now levels) (now area)) × (p < n * n) × (q < n * n) × (Laid n i (now levels) (now area)) × (Held n i (now levels) (now other)) × (n ≤ length (now mine)) ⌝ }
     ensures { λ r. ⌜ (r ≡ agreeAt rule (markedGraph n (now (area .entry))) i (levelOf n (now (levels .entry))) p q) × (Held n i (now (levels .entry)) (now (other .exit))) ⌝ }
 {
-    let mut mine: [u64; 128] = [0; 128];
-    let k = midpoints(n, i, levels, area, p, &mut mine);
+    let k = midpoints(n, i, levels, area, p, mine);
     let j = kept_midpoints(n, i, levels, area, q, other);
-    agree(n, area, p / n, p % n, q / n, q % n, &mine, k, other, j)
+    agree(n, area, p / n, p % n, q / n, q % n, mine, k, other, j)
 }
 
 // Position p of level i is right, where top is the largest number before it and the first position of each number stands
@@ -50,9 +50,10 @@ fn is_right(
     area: &[u8],
     p: usize,
     top: u32,
+    mine: &mut [u64],
     other: &mut [u64],
 ) -> bool
-    requires { ⌜ (Ready n i (now levels) (now area)) × (Near n i (now area)) × (Seen n i (now levels) p top) × (Firsts n i (now levels) (now area) top) × (Laid n i (now levels) (now area)) × (Held n i (now levels) (now other)) ⌝ }
+    requires { ⌜ (Ready n i (now levels) (now area)) × (Near n i (now area)) × (Seen n i (now levels) p top) × (Firsts n i (now levels) (now area) top) × (Laid n i (now levels) (now area)) × (Held n i (now levels) (now other)) × (n ≤ length (now mine)) ⌝ }
     ensures { λ r. ⌜ (r ≡ levelOk rule (markedGraph n (now (area .entry))) i (levelOf n (now (levels .entry))) p) × (Held n i (now (levels .entry)) (now (other .exit))) ⌝ }
 {
     let c = levels[(i - 1) * (n * n) + p];
@@ -66,7 +67,7 @@ fn is_right(
         return c == top + 1;
     }
     let q = word_at(area, 2 * (n * n) + 2 * (c as usize - 1));
-    agree_at(n, i, levels, area, p, q, other)
+    agree_at(n, i, levels, area, p, q, mine, other)
 }
 
 // The largest number so far; where c is a new one, p is kept as its first position.
@@ -87,11 +88,12 @@ fn check_positions(n: usize, i: usize, levels: &[u32], area: &mut [u8]) -> usize
     ensures { λ r. ⌜ Passed n i (now (levels .entry)) (now (area .entry)) r (now (area .exit)) ⌝ }
 {
     let start = (i - 1) * (n * n);
+    let mut mine: [u64; 128] = [0; 128];
     let mut other: [u64; 130] = [0; 130];
     let mut top: u32 = 0;
     let mut p = 0;
     while p < n * n {
-        if !is_right(n, i, levels, area, p, top, &mut other) {
+        if !is_right(n, i, levels, area, p, top, &mut mine, &mut other) {
             return p;
         }
         top = note_first(n, area, p, levels[start + p], top);

@@ -11,7 +11,7 @@ use borrow.Author.Tests.{eq-eqb, ne-eqb, eqb-true, eqb-false}
 use lib.Dec.{eqb}
 use lib.ListN.{length, getD, length-append}
 use Rattle.rules.specs.Finite.{countBelow}
-use Rattle.rules.proofs.Laws.Tests.{either}
+use Rattle.rules.proofs.Laws.Tests.{either, one-at-most}
 use Rattle.rules.proofs.Laws.Places.{place-lt}
 use Rattle.relations.specs.Relations.{bitAt, Slot}
 use Rattle.entries.specs.Entries.{Went, Firsts, isFirst, isHit, entriesRow}
@@ -32,23 +32,19 @@ unfolding bitAt
 hit-some first l x k = rw (ne-eqb first 0 k) (digit (x / (2 ^ l) % 2) (mod-lt (x / (2 ^ l)) (omega arith)))
 
 -- one position more
-one-le : (b : Bool) → cond {A = ℕ} b 1 0 ≤ 1
-one-le true = omega arith
-one-le false = omega arith
-
 pub count-more : (w : List ℕ) (from firsts l u : ℕ) {a x : ℕ} → a ≡ countBelow u (isHit w from firsts l) → a ≤ u
     → x ≡ cond (not (eqb (getD w (firsts + u) 0) 0) && bitAt l (getD w (from + u) 0)) 1 0
     → (a + x ≡ countBelow (u + 1) (isHit w from firsts l)) × (a + x ≤ u + 1)
 unfolding countBelow isHit
 count-more w from firsts l u e h ex = (
   rw (add-one u) (ap₂ _+_ e ex),
-  omega (arith, ex, one-le (not (eqb (getD w (firsts + u) 0) 0) && bitAt l (getD w (from + u) 0))),
+  omega (arith, ex, one-at-most (not (eqb (getD w (firsts + u) 0) 0) && bitAt l (getD w (from + u) 0))),
 )
 
 pub count-le : (n : ℕ) (f : ℕ → Bool) → countBelow n f ≤ n
 unfolding countBelow
 count-le zero f = omega arith
-count-le (suc n) f = omega (arith, count-le n f, one-le (f n))
+count-le (suc n) f = omega (arith, count-le n f, one-at-most (f n))
 
 -- the hits of a row are its entries
 told : (b : Bool) → not (eqb (cond {A = ℕ} b 1 0) 0) ≡ b

@@ -13,15 +13,11 @@ use lib.Seq.{getD-set-same, getD-set-other}
 use borrow.Author.Tests.{eq-eqb, eqb-true}
 use Rattle.rules.specs.Finite.{anyBelow}
 use Rattle.rules.specs.Graph.{edgeIs}
-use Rattle.rules.proofs.Laws.Tests.{and-left, and-right, not-true-of}
+use Rattle.rules.proofs.Laws.Tests.{and-left, and-right, or-none, not-true-of}
 use Rattle.rules.proofs.Laws.Loops.{any-step}
 use Rattle.rules.proofs.Laws.Bits.{bit-or, bit-power}
 use Rattle.rules.proofs.Laws.Places.{place-lt, place-row, place-column}
 use Rattle.twins.specs.Marks.{bitAt}
-
-or-none : (a : Bool) {b : Bool} → b ≡ false → a ≡ (a || b)
-or-none true h = refl
-or-none false h = sym h
 
 -- one edge more: edge e goes from v to u along k
 module _ (n : ℕ) (es : List ℕ) (e v u k : ℕ) (ev : v ≡ getD es (3 * e) 0) (eu : u ≡ getD es (3 * e + 1) 0) (ek : k ≡ getD es (3 * e + 2) 0) (hu : u < n) where
@@ -60,5 +56,5 @@ module _ (n : ℕ) (es : List ℕ) (e v u k : ℕ) (ev : v ≡ getD es (3 * e) 0
       go (no p) =
           ap (bitAt l) (getD-set-other w (v * n + u) q _ 0 p)
           ∙ inv q l i j
-          ∙ or-none _ (edge-other q l p)
+          ∙ or-none _ _ (edge-other q l p)
           ∙ sym (any-step _ e)

@@ -7,9 +7,6 @@ use Rattle.twins.proofs.Laws.Agreement.{at-is}
 use Rattle.levels.proofs.check.agree_at.Statement.{statement}
 use Rattle.levels.proofs.check.agree_at.Tie as tie
 
-slice-aggregate-midpoints : tie.Need-slice-aggregate-midpoints
-slice-aggregate-midpoints c = search needs
-
 midpoints-requires : tie.Need-midpoints-requires
 midpoints-requires c κs = search needs
 
@@ -17,25 +14,22 @@ kept-midpoints-requires : tie.Need-kept-midpoints-requires
 kept-midpoints-requires c κs = search needs
 
 div-agree : tie.Need-div-agree
-div-agree c = some-items _ _ (c .before .before .before .before .before .before .before .before .before .before .pre .1)
+div-agree c = some-items _ _ (c .before .before .before .before .before .before .before .before .before .before .before .before .pre .1)
 
 rem-agree : tie.Need-rem-agree
-rem-agree c = some-items _ _ (c .before .before .before .before .before .before .before .before .before .before .pre .1)
+rem-agree c = some-items _ _ (c .before .before .before .before .before .before .before .before .before .before .before .before .pre .1)
 
 div-agree-2 : tie.Need-div-agree-2
-div-agree-2 c = some-items _ _ (c .before .before .before .before .before .before .before .before .before .before .pre .1)
+div-agree-2 c = some-items _ _ (c .before .before .before .before .before .before .before .before .before .before .before .before .pre .1)
 
 rem-agree-2 : tie.Need-rem-agree-2
-rem-agree-2 c = some-items _ _ (c .before .before .before .before .before .before .before .before .before .before .pre .1)
-
-slice-aggregate-agree : tie.Need-slice-aggregate-agree
-slice-aggregate-agree c = search needs
+rem-agree-2 c = some-items _ _ (c .before .before .before .before .before .before .before .before .before .before .before .before .pre .1)
 
 agree-requires : tie.Need-agree-requires
 agree-requires c κs =
     let k = c .before .before .before .before in
-    let m = k .before .before .before in
-    let a = m .before .before .before .before .before in (
+    let m = k .before .before .before .before in
+    let a = m .before .before .before .before .before .before in (
       record { room = omega (arith, a .pre .0 .area-room) },
       record { first = row-lt _ _ (a .pre .1); second = column-lt _ _ (a .pre .1) },
       record { first = row-lt _ _ (a .pre .2); second = column-lt _ _ (a .pre .2) },
@@ -46,24 +40,26 @@ agree-requires c κs =
 same-length : tie.Need-same-length
 same-length c = search needs
 
+same-length-2 : tie.Need-same-length-2
+same-length-2 c = search needs
+
 returns : tie.Need-returns
 returns c =
     let k = c .before .before .before .before .before in
-    let m = k .before .before .before in
+    let m = k .before .before .before .before in
     (c .agree .ensures _ _ (m .midpoints .ensures) (k .kept-midpoints .ensures .0) ∙ at-is _ _ _ _ _ _, k .kept-midpoints .ensures .1)
 
 pub agree-at-spec : {M : Type 1} → statement M
 agree-at-spec =
     tie.close
     (tie.spec
-    slice-aggregate-midpoints
     midpoints-requires
     kept-midpoints-requires
     div-agree
     rem-agree
     div-agree-2
     rem-agree-2
-    slice-aggregate-agree
     agree-requires
     same-length
+    same-length-2
     returns)

@@ -25,12 +25,12 @@ use Rattle.levels.proofs.check.check_positions.Statement.{statement}
 use Rattle.levels.proofs.check.check_positions.Tie as tie
 
 abbrev Inv-loop : tie.InvT-loop
-Inv-loop n i levels area₀ start other₀ top₀ p₀ area other top p =
+Inv-loop n i levels area₀ start mine₀ other₀ top₀ p₀ area mine other top p =
     (p ≤ n * n) × (top ≤ p) × (top ≡ maxOf (take p (levelOf n levels i))) × (anyBelow p (isFault rule (markedGraph n area₀) i (levelOf n levels)) ≡ false)
-    × (Firsts n i levels area top) × (Steady n area₀ area) × Held n i levels other
+    × (Firsts n i levels area top) × (Steady n area₀ area) × (Held n i levels other) × (length mine ≡ 128)
 
 abbrev μ-loop : tie.MeasureT-loop
-μ-loop n i levels area₀ start other₀ top₀ p₀ area other top p = n * n - p
+μ-loop n i levels area₀ start mine₀ other₀ top₀ p₀ area mine other top p = n * n - p
 
 sub-start : tie.Need-sub-start Inv-loop μ-loop
 sub-start c = omega arith
@@ -43,7 +43,7 @@ mul-start-2 c = let a = c .before .before in omega (arith, base-next (a .args .n
 
 loop-holds : tie.Need-loop-holds Inv-loop μ-loop
 unfolding maxOf
-loop-holds c = (omega arith, omega arith, refl, any-start _, firsts-start _ _ _ _, steady-refl _ _, held-none _ _ _ _ refl (getD-zeros 130 128))
+loop-holds c = (omega arith, omega arith, refl, any-start _, firsts-start _ _ _ _, steady-refl _ _, held-none _ _ _ _ refl (getD-zeros 130 128), refl)
 
 mul-loop : tie.Need-mul-loop Inv-loop μ-loop
 mul-loop c = let a = c .before .before .before in omega (arith, base-next (a .args .n) (a .args .i) (a .pre .0 .some))
@@ -51,26 +51,30 @@ mul-loop c = let a = c .before .before .before in omega (arith, base-next (a .ar
 slice-aggregate-is-right : tie.Need-slice-aggregate-is-right Inv-loop μ-loop
 slice-aggregate-is-right c = search needs
 
+slice-aggregate-is-right-2 : tie.Need-slice-aggregate-is-right-2 Inv-loop μ-loop
+slice-aggregate-is-right-2 c = search needs
+
 is-right-requires : tie.Need-is-right-requires Inv-loop μ-loop
 is-right-requires c κs =
-    let l = c .before .before .before in
+    let l = c .before .before .before .before in
     let a = l .before .before .before in
     let i = l .loop .inv in (
       ready-area _ _ _ _ _ (a .pre .0) (steady-marks _ _ _ (i .5)) (i .5 .size),
       near-steady _ _ _ _ (a .pre .1) (i .5),
-      record { inside = c .before .before .loop-test .taken; largest = i .2; small = i .1 },
+      record { inside = c .before .before .before .loop-test .taken; largest = i .2; small = i .1 },
       i .4,
       laid-steady _ _ _ _ _ (i .5) (a .pre .2),
       i .6,
+      omega (arith, i .7, a .pre .0 .few),
     )
 
 same-length : tie.Need-same-length Inv-loop μ-loop
-same-length c = c .before .before .before .before .before .before .loop .inv .5 .size
+same-length c = c .before .before .before .before .before .before .before .before .loop .inv .5 .size
 
 returns : tie.Need-returns Inv-loop μ-loop
 returns c =
-    let r = c .before .before in
-    let t = r .before .before .before in
+    let r = c .before .before .before in
+    let t = r .before .before .before .before in
     let i = t .before .loop .inv in
     record {
       fault = fault-found _ _ _ _ _ (t .loop-test .taken) (i .3) (fault-yes _ _ _ _ _ (ok-kept _ _ _ _ _ _ (i .5) (r .is-right .ensures .0)) (c .if1 .taken));
@@ -78,23 +82,23 @@ returns c =
     }
 
 add-note-first : tie.Need-add-note-first Inv-loop μ-loop
-add-note-first c = let a = c .before .before .before .before .before .before .before .before .before .before in omega (arith, base-next (a .args .n) (a .args .i) (a .pre .0 .some))
+add-note-first c = let a = c .before .before .before .before .before .before .before .before .before .before .before .before in omega (arith, base-next (a .args .n) (a .args .i) (a .pre .0 .some))
 
 mul-note-first : tie.Need-mul-note-first Inv-loop μ-loop
-mul-note-first c = let a = c .before .before .before .before .before .before .before .before .before .before in omega (arith, base-next (a .args .n) (a .args .i) (a .pre .0 .some))
+mul-note-first c = let a = c .before .before .before .before .before .before .before .before .before .before .before .before in omega (arith, base-next (a .args .n) (a .args .i) (a .pre .0 .some))
 
 shared-slice-read-note-first : tie.Need-shared-slice-read-note-first Inv-loop μ-loop
-shared-slice-read-note-first c = let a = c .before .before .before .before .before .before .before .before .before .before .before in omega (arith, base-next (a .args .n) (a .args .i) (a .pre .0 .some))
+shared-slice-read-note-first c = let a = c .before .before .before .before .before .before .before .before .before .before .before .before .before in omega (arith, base-next (a .args .n) (a .args .i) (a .pre .0 .some))
 
 note-first-requires : tie.Need-note-first-requires Inv-loop μ-loop
 note-first-requires c κs =
-    let l = c .before .before .before .before .before .before .before .before in
+    let l = c .before .before .before .before .before .before .before .before .before .before in
     let a = l .before .before .before in
     let i = l .loop .inv in
-    (a .pre .0 .few, omega (arith, i .5 .size, a .pre .0 .area-room), c .before .before .before .before .before .before .before .loop-test .taken, i .1)
+    (a .pre .0 .few, omega (arith, i .5 .size, a .pre .0 .area-room), c .before .before .before .before .before .before .before .before .before .loop-test .taken, i .1)
 
 add-p : tie.Need-add-p Inv-loop μ-loop
-add-p c = let a = c .before .before .before .before .before .before .before .before .before .before .before .before .before .before in omega (arith, square-le (a .pre .0 .few))
+add-p c = let a = c .before .before .before .before .before .before .before .before .before .before .before .before .before .before .before .before in omega (arith, square-le (a .pre .0 .few))
 
 loop-less : tie.Need-loop-less Inv-loop μ-loop
 loop-less c = omega arith
@@ -103,8 +107,8 @@ loop-again : tie.Need-loop-again Inv-loop μ-loop
 loop-again c =
     let s = c .before .before in
     let e = c .before .before .before .before .before in
-    let r = e .before .before in
-    let t = r .before .before .before in
+    let r = e .before .before .before in
+    let t = r .before .before .before .before in
     let l = t .before in
     let a = l .before .before .before in
     let i = l .loop .inv in
@@ -125,6 +129,7 @@ loop-again c =
       note-firsts _ _ _ _ _ _ _ d room (t .loop-test .taken) (i .1) _ _ (i .4) ek y (i .2),
       steady-trans _ _ _ _ (i .5) (note-steady _ _ _ _ _ _ _ d room (t .loop-test .taken) (i .1)),
       r .is-right .ensures .1,
+      search needs,
     )
 
 same-length-2 : tie.Need-same-length-2 Inv-loop μ-loop
@@ -147,6 +152,7 @@ check-positions-spec =
     loop-holds
     mul-loop
     slice-aggregate-is-right
+    slice-aggregate-is-right-2
     is-right-requires
     same-length
     returns

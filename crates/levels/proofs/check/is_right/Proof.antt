@@ -23,16 +23,16 @@ mul-c : tie.Need-mul-c
 mul-c c = search needs
 
 mul-c-2 : tie.Need-mul-c-2
-mul-c-2 c = let a = c .before .before .before in omega (arith, base-next (a .args .n) (a .args .i) (a .pre .0 .some))
+mul-c-2 c = let a = c .before .before .before .before in omega (arith, base-next (a .args .n) (a .args .i) (a .pre .0 .some))
 
 add-c : tie.Need-add-c
-add-c c = let a = c .before .before .before in omega (arith, base-next (a .args .n) (a .args .i) (a .pre .0 .some), a .pre .2 .inside)
+add-c c = let a = c .before .before .before .before in omega (arith, base-next (a .args .n) (a .args .i) (a .pre .0 .some), a .pre .2 .inside)
 
 mul-c-3 : tie.Need-mul-c-3
-mul-c-3 c = let a = c .before .before .before in omega (arith, base-next (a .args .n) (a .args .i) (a .pre .0 .some), a .pre .2 .inside)
+mul-c-3 c = let a = c .before .before .before .before in omega (arith, base-next (a .args .n) (a .args .i) (a .pre .0 .some), a .pre .2 .inside)
 
 shared-slice-read-c : tie.Need-shared-slice-read-c
-shared-slice-read-c c = let a = c .before .before .before .before in omega (arith, base-next (a .args .n) (a .args .i) (a .pre .0 .some), a .pre .2 .inside)
+shared-slice-read-c c = let a = c .before .before .before .before .before in omega (arith, base-next (a .args .n) (a .args .i) (a .pre .0 .some), a .pre .2 .inside)
 
 mul-if1 : tie.Need-mul-if1
 mul-if1 c = search needs
@@ -45,22 +45,22 @@ shared-slice-read-if1 c = search needs
 
 returns : tie.Need-returns
 returns c =
-    let a = c .before .before .before .before .before .before in
+    let a = c .before .before .before .before .before .before .before in
     (right-out _ _ _ _ _ (sym (place-get _ _ _ _ (a .pre .0 .some) (a .pre .2 .inside))) (byte-clear _ (a .pre .1 .byte-at (a .args .p) (a .pre .2 .inside)) (c .if1 .taken)), a .pre .5)
 
 returns-2 : tie.Need-returns-2
 returns-2 c =
     let e = c .before in
-    let a = e .before .before .before .before .before .before in
+    let a = e .before .before .before .before .before .before .before in
     (right-zero _ _ _ _ _ (sym (place-get _ _ _ _ (a .pre .0 .some) (a .pre .2 .inside))) (byte-set _ (a .pre .1 .byte-at (a .args .p) (a .pre .2 .inside)) (e .if1 .left)) (c .if2 .taken), a .pre .5)
 
 add-result : tie.Need-add-result
-add-result c = let a = c .before .before .before .before .before .before .before .before in omega (arith, square-le (a .pre .0 .few), a .pre .2 .small, a .pre .2 .inside)
+add-result c = let a = c .before .before .before .before .before .before .before .before .before in omega (arith, square-le (a .pre .0 .few), a .pre .2 .small, a .pre .2 .inside)
 
 returns-3 : tie.Need-returns-3
 returns-3 c =
     let e = c .before .before in
-    let a = e .before .before .before .before .before .before in (
+    let a = e .before .before .before .before .before .before .before in (
       right-new _ _ _ _ _ (sym (place-get _ _ _ _ (a .pre .0 .some) (a .pre .2 .inside))) (a .pre .2 .inside)
           (byte-set _ (a .pre .1 .byte-at (a .args .p) (a .pre .2 .inside)) (e .if1 .left)) (c .before .if2 .left) (a .pre .2 .largest) (c .if3 .taken),
       a .pre .5,
@@ -88,17 +88,17 @@ word-at-requires : tie.Need-word-at-requires
 word-at-requires c κs = search needs
 
 -- what was read is the first position of the number of p
-is-first : (c : tie.After-word-at) → c .word-at .result ≡ firstOf (c .before .before .before .before .before .before .before .before .before .args .n * c .before .before .before .before .before .before .before .before .before .args .n) (levelOf (c .before .before .before .before .before .before .before .before .before .args .n) (c .before .before .before .before .before .before .before .before .before .args .levels .now) (c .before .before .before .before .before .before .before .before .before .args .i)) (getD (levelOf (c .before .before .before .before .before .before .before .before .before .args .n) (c .before .before .before .before .before .before .before .before .before .args .levels .now) (c .before .before .before .before .before .before .before .before .before .args .i)) (c .before .before .before .before .before .before .before .before .before .args .p) 0)
+is-first : (c : tie.After-word-at) → c .word-at .result ≡ firstOf (c .before .before .before .before .before .before .before .before .before .before .args .n * c .before .before .before .before .before .before .before .before .before .before .args .n) (levelOf (c .before .before .before .before .before .before .before .before .before .before .args .n) (c .before .before .before .before .before .before .before .before .before .before .args .levels .now) (c .before .before .before .before .before .before .before .before .before .before .args .i)) (getD (levelOf (c .before .before .before .before .before .before .before .before .before .before .args .n) (c .before .before .before .before .before .before .before .before .before .before .args .levels .now) (c .before .before .before .before .before .before .before .before .before .before .args .i)) (c .before .before .before .before .before .before .before .before .before .before .args .p) 0)
 is-first c =
     let e2 = c .before .before in
-    let a = c .before .before .before .before .before .before .before .before .before in
+    let a = c .before .before .before .before .before .before .before .before .before .before in
     first-read _ _ _ _ _ (a .pre .3) _ (e2 .if2 .left) (c .before .if3 .left) (c .word-at .ensures .0)
     ∙ ap (firstOf (a .args .n * a .args .n) (levelOf (a .args .n) (a .args .levels .now) (a .args .i))) (sym (place-get _ _ _ _ (a .pre .0 .some) (a .pre .2 .inside)))
 
 agree-at-requires : tie.Need-agree-at-requires
 agree-at-requires c κs =
-    let w = c .before in
-    let a = w .before .before .before .before .before .before .before .before .before in
+    let w = c .before .before in
+    let a = w .before .before .before .before .before .before .before .before .before .before in
     let h : w .word-at .result < a .args .n * a .args .n =
     rw (is-first w) (first-of-lt (a .args .n * a .args .n) (levelOf (a .args .n) (a .args .levels .now) (a .args .i)) (a .args .p) (a .pre .2 .inside)) in (
       a .pre .0,
@@ -106,18 +106,22 @@ agree-at-requires c κs =
       omega (arith, h, a .pre .2 .inside),
       a .pre .4,
       a .pre .5,
+      a .pre .6,
     )
 
 same-length : tie.Need-same-length
 same-length c = search needs
 
+same-length-2 : tie.Need-same-length-2
+same-length-2 c = search needs
+
 returns-4 : tie.Need-returns-4
 returns-4 c =
-    let g = c .before .before in
-    let f = g .before .before in
+    let g = c .before .before .before .before in
+    let f = g .before .before .before in
     let e2 = f .before .before in
     let e = e2 .before in
-    let a = e .before .before .before .before .before .before in
+    let a = e .before .before .before .before .before .before .before in
     let m = markedGraph (a .args .n) (a .args .area .now) in
     let T = levelOf (a .args .n) (a .args .levels .now) in (
       right-agree _ _ _ _ _ (sym (place-get _ _ _ _ (a .pre .0 .some) (a .pre .2 .inside))) (byte-set _ (a .pre .1 .byte-at (a .args .p) (a .pre .2 .inside)) (e .if1 .left))
@@ -152,4 +156,5 @@ is-right-spec =
     word-at-requires
     agree-at-requires
     same-length
+    same-length-2
     returns-4)
