@@ -30,7 +30,7 @@ pub record SkipRow (n : ℕ) (s : List ℕ) (v : ℕ) (area area' : List ℕ) : 
   pub behind : drop (8 * (n * n) + (v * n + n)) area' ≡ drop (8 * (n * n) + (v * n + n)) area
   pub size : length area' ≡ length area
 
--- all but the last of the first 9·n² bytes, and what lies past them, are as they were
+-- the first 8·n² bytes, and what lies past the first 9·n², are as they were
 pub record Aside (n : ℕ) (area area' : List ℕ) : Type 0 where
   pub front : take (8 * (n * n)) area' ≡ take (8 * (n * n)) area
   pub rest : drop (9 * (n * n)) area' ≡ drop (9 * (n * n)) area
