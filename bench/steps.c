@@ -2,9 +2,8 @@
 
      steps GRAPH K     GRAPH is register, random, cycle or star */
 #include <stdio.h>
-#include <string.h>
 
-#include "graphs.h"
+#include "named.h"
 
 #define SQUARE (128 * 128)
 #define ROOM 1000000
@@ -13,17 +12,8 @@ static graph the_graph;
 static uint32_t levels[4 * SQUARE], starts[SQUARE + 1], order[SQUARE], entries[2 * ROOM];
 static uint8_t area[9 * SQUARE];
 
-static int make(const char *name) {
-    if (strcmp(name, "register") == 0) register_graph(&the_graph, 128);
-    else if (strcmp(name, "random") == 0) random_graph(&the_graph, 11, 128, 4, 512);
-    else if (strcmp(name, "cycle") == 0) cycle_graph(&the_graph, 128);
-    else if (strcmp(name, "star") == 0) star_graph(&the_graph, 128);
-    else return 0;
-    return 1;
-}
-
 int main(int count, char **words) {
-    if (count != 3 || !make(words[1])) return 2;
+    if (count != 3 || !named_graph(&the_graph, words[1])) return 2;
     const graph *g = &the_graph;
     const uint32_t k = (uint32_t)(words[2][0] - '0');
     kv_result built = kv_build(g->items, g->labels, k, g->edges, g->count, levels, 4 * SQUARE, starts, SQUARE + 1, order, SQUARE, entries, 2 * ROOM, area, sizeof area);
