@@ -33,7 +33,7 @@ fn agree_at(
     mine: &mut [u64],
     other: &mut [u64],
 ) -> bool
-    requires { ⌜ (Ready n i (now levels) (now area)) × (p < n * n) × (q < n * n) × (Laid n i (now levels) (now area)) × (Held n i (now levels) (now other)) × (n ≤ length (now mine)) ⌝ }
+    requires { ⌜ (Ready n i (now levels) (now area)) × (p < n * n) × (q < n * n) × (Laid n i (now levels) (now area)) × (Held n i (now levels) (now other)) × (384 ≤ length (now mine)) ⌝ }
     ensures { λ r. ⌜ (r ≡ agreeAt rule (markedGraph n (now (area .entry))) i (levelOf n (now (levels .entry))) p q) × (Held n i (now (levels .entry)) (now (other .exit))) ⌝ }
 {
     let k = midpoints(n, i, levels, area, p, mine);
@@ -53,7 +53,7 @@ fn is_right(
     mine: &mut [u64],
     other: &mut [u64],
 ) -> bool
-    requires { ⌜ (Ready n i (now levels) (now area)) × (Near n i (now area)) × (Seen n i (now levels) p top) × (Firsts n i (now levels) (now area) top) × (Laid n i (now levels) (now area)) × (Held n i (now levels) (now other)) × (n ≤ length (now mine)) ⌝ }
+    requires { ⌜ (Ready n i (now levels) (now area)) × (Near n i (now area)) × (Seen n i (now levels) p top) × (Firsts n i (now levels) (now area) top) × (Laid n i (now levels) (now area)) × (Held n i (now levels) (now other)) × (384 ≤ length (now mine)) ⌝ }
     ensures { λ r. ⌜ (r ≡ levelOk rule (markedGraph n (now (area .entry))) i (levelOf n (now (levels .entry))) p) × (Held n i (now (levels .entry)) (now (other .exit))) ⌝ }
 {
     let c = levels[(i - 1) * (n * n) + p];
@@ -88,8 +88,8 @@ fn check_positions(n: usize, i: usize, levels: &[u32], area: &mut [u8]) -> usize
     ensures { λ r. ⌜ Passed n i (now (levels .entry)) (now (area .entry)) r (now (area .exit)) ⌝ }
 {
     let start = (i - 1) * (n * n);
-    let mut mine: [u64; 128] = [0; 128];
-    let mut other: [u64; 130] = [0; 130];
+    let mut mine: [u64; 384] = [0; 384];
+    let mut other: [u64; 386] = [0; 386];
     let mut top: u32 = 0;
     let mut p = 0;
     while p < n * n {

@@ -30,7 +30,7 @@ fn next_number(
     mine: &mut [u64],
     other: &mut [u64],
 ) -> u32
-    requires { ⌜ (Ready n i (now levels) (now area)) × (Near n i (now area)) × (Begun n i (now levels) (now area) p top) × (p < n * n) × (Chains (isIn n i (now area)) (alike n i (now levels) (now area)) (bucketOf n i (now levels) (now area)) n (now area) p) × (Laid n i (now levels) (now area)) × (Held n i (now levels) (now other)) × (n ≤ length (now mine)) ⌝ }
+    requires { ⌜ (Ready n i (now levels) (now area)) × (Near n i (now area)) × (Begun n i (now levels) (now area) p top) × (p < n * n) × (Chains (isIn n i (now area)) (alike n i (now levels) (now area)) (bucketOf n i (now levels) (now area)) n (now area) p) × (Laid n i (now levels) (now area)) × (Held n i (now levels) (now other)) × (384 ≤ length (now mine)) ⌝ }
     ensures { λ r. ⌜ (Taken n i (now (levels .entry)) (now (area .entry)) p r (now (area .exit))) × (Held n i (now (levels .entry)) (now (other .exit))) ⌝ }
 {
     if area[n * n + p] == 0 {
@@ -52,8 +52,8 @@ fn number_positions(n: usize, i: usize, levels: &mut [u32], area: &mut [u8]) -> 
     ensures { λ r. ⌜ Positioned n i (now (levels .entry)) (now (area .entry)) r (now (levels .exit)) (now (area .exit)) ⌝ }
 {
     let start = (i - 1) * (n * n);
-    let mut mine: [u64; 128] = [0; 128];
-    let mut other: [u64; 130] = [0; 130];
+    let mut mine: [u64; 384] = [0; 384];
+    let mut other: [u64; 386] = [0; 386];
     let mut top: u32 = 0;
     let mut p = 0;
     while p < n * n {

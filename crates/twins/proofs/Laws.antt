@@ -5,6 +5,7 @@ pub mod Tables
 pub mod Areas
 pub mod Agreement
 pub mod Halves
+pub mod Below
 pub mod Skips
 pub mod Reach
 pub mod Rows

@@ -8,7 +8,7 @@ use lib.ListN.{getD, take, set}
 use Rattle.rules.specs.Finite.{anyBelow}
 use Rattle.rules.specs.Rule.{rule}
 use Rattle.rules.specs.Levels.{numberAt, levelOf, matches}
-use Rattle.twins.specs.Halves.{pairOf}
+use Rattle.twins.specs.Halves.{midpointOf}
 
 -- two bytes as one number, the low byte first
 unfoldable pub word : List ℕ → ℕ → ℕ
@@ -64,8 +64,8 @@ unfoldable pub hashOf : ℕ → ℕ → ℕ
 hashOf k x = (mixOf x + k) % 4294967296
 
 -- of a midpoint the hash of its number, else 0
-unfoldable pub midHash : ℕ → ℕ → List ℕ → List ℕ → ℕ → ℕ → ℕ → ℕ
-midHash k n s t v u m = cond (eqb (numberAt n s v m) 0 || eqb (numberAt n t m u) 0) 0 (hashOf k (pairOf (numberAt n s v m) (numberAt n t m u)))
+unfoldable pub midHash : ℕ → ℕ → List ℕ → List ℕ → ℕ → ℕ → ℕ → ℕ → ℕ
+midHash k n s t c v u m = cond (eqb (numberAt n s v m) 0 || eqb (numberAt n t m u) 0) 0 (hashOf k (midpointOf c (numberAt n s v m) (numberAt n t m u)))
 
 -- the largest of f 0, f 1, .. below the bound
 unfoldable pub mostBelow : ℕ → (ℕ → ℕ) → ℕ
@@ -97,21 +97,21 @@ pub record Mosts (list : List ℕ) (k a b c d : ℕ) : Type 0 where
   pub half : c ≡ mostBelow k (hashAt list 2147483648)
   pub most : d ≡ mostBelow k (hashAt list 3221225472)
 
--- the largest hash, turned by k, of the midpoints of (v,u)
-unfoldable pub pairMost : ℕ → List ℕ → List ℕ → ℕ → ℕ → ℕ → ℕ
-pairMost n s t v u k = mostBelow n (midHash k n s t v u)
+-- the largest hash, turned by k, of the midpoints of (v,u) in split c of level i
+unfoldable pub splitMost : ℕ → ℕ → List ℕ → ℕ → ℕ → ℕ → ℕ → ℕ
+splitMost n i levels v u k c = mostBelow n (midHash k n (levelOf n levels (rule .first i c)) (levelOf n levels (rule .second i c)) c v u)
+
+-- in every split
+unfoldable pub pairMost : ℕ → ℕ → List ℕ → ℕ → ℕ → ℕ → ℕ
+pairMost n i levels v u k = mostBelow (rule .many i) (splitMost n i levels v u k)
 
 -- four turns together
 unfoldable pub fourOf : (ℕ → ℕ) → ℕ
 fourOf f = f 0 + f 1073741824 + f 2147483648 + f 3221225472
 
--- the largest hashes of the midpoints of the pair at p, in the first split of level i, by four turns together
-unfoldable pub splitMost : ℕ → ℕ → List ℕ → ℕ → ℕ
-splitMost n i levels p = fourOf (pairMost n (levelOf n levels (rule .first i 0)) (levelOf n levels (rule .second i 0)) (p / n) (p % n))
-
--- 0 where level i has no split
+-- the largest hashes of the midpoints of the pair at p, by four turns together
 unfoldable pub mostOf : ℕ → ℕ → List ℕ → ℕ → ℕ
-mostOf n i levels p = cond (eqb (rule .many i) 0) 0 (splitMost n i levels p)
+mostOf n i levels p = fourOf (pairMost n i levels (p / n) (p % n))
 
 unfoldable pub bucketOf : ℕ → ℕ → List ℕ → List ℕ → ℕ → ℕ
 bucketOf n i levels area p = (keyOf n area p + mostOf n i levels p) % (n * n)

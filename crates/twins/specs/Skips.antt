@@ -1,4 +1,4 @@
--- Which items of a row need not be looked at: for each item the first from it on that is connected, a byte each, in the last n·n bytes of the area.
+-- Which items of a row need not be looked at: for each item the next from it on that has to be, a byte each, in the last n·n bytes of the area.
 use Prim.Native.Nat.{ℕ, _+_, _*_, _≤_, _<_}
 use mathlib.Core.Path.{_≡_}
 use mathlib.Core.List.{List}
@@ -6,12 +6,11 @@ use lib.ListN.{length, getD, take, drop}
 use Rattle.rules.specs.Rule.{rule}
 use Rattle.rules.specs.Levels.{numberAt, levelOf}
 
--- w is the first item from m on that the table s connects with v, or n
+-- w is an item from m on, or n, and none before it from m on is connected with v by the table s
 pub record Next (n : ℕ) (s : List ℕ) (v m w : ℕ) : Type 0 where
   pub up : m ≤ w
   pub few : w ≤ n
   pub zeros : (x : ℕ) → m ≤ x → x < w → numberAt n s v x ≡ 0
-  pub some : w < n → 0 < numberAt n s v w
 
 -- these stand in the area, for every pair (v,m)
 pub record Skips (n : ℕ) (s area : List ℕ) : Type 0 where

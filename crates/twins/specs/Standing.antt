@@ -34,6 +34,7 @@ pub record EdgesFit (n labels : ℕ) (edges : List ℕ) : Type 0 where
 pub record Ready (n i : ℕ) (levels area : List ℕ) : Type 0 where
   pub few : n ≤ 128
   pub some : 0 < i
+  pub short : i ≤ 4
   pub room : i * (n * n) ≤ length levels
   pub area-room : 9 * (n * n) ≤ length area
   pub below : LevelsAccepted rule (markedGraph n area) (i - 1) (levelOf n levels)

@@ -30,33 +30,7 @@ pub fn same_ends(v: usize, u: usize, x: usize, y: usize) -> bool
     x != y
 }
 
-// How many splits of midpoints level i has.
-pub fn splits(i: usize) -> usize
-    ensures { λ r. ⌜ r ≡ rule .many i ⌝ }
-{
-    if 1 < i {
-        return 1;
-    }
-    0
-}
-
-// The level of the first half in split c of level i.
-pub fn first_level(i: usize, c: usize) -> usize
-    requires { ⌜ 0 < i ⌝ }
-    ensures { λ r. ⌜ r ≡ rule .first i c ⌝ }
-{
-    i - 1
-}
-
-// The level of the second half in split c of level i.
-pub fn second_level(i: usize, c: usize) -> usize
-    requires { ⌜ 0 < i ⌝ }
-    ensures { λ r. ⌜ r ≡ rule .second i c ⌝ }
-{
-    i - 1
-}
-
-// The pairs (v,u) and (x,y) agree at level i: A, B, and C by the lists of their midpoints, which serve every split.
+// The pairs (v,u) and (x,y) agree at level i: A, B, and C by the lists of their midpoints in every split.
 pub fn agree(
     n: usize,
     area: &[u8],

@@ -1,24 +1,25 @@
-// The midpoints of a pair as a list: of each the numbers of its two halves, in one number. The twin search goes over such lists.
+// The midpoints of a pair as a list: of each its split and the numbers of its two halves, in one number. The twin search goes over such lists.
 ghost use mathlib.Core.Path.{_≡_};
 ghost use mathlib.Core.Bool.{_&&_, true};
-ghost use Prim.Native.Nat.{ℕ, _*_, _/_, _%_, _≤_, _<_};
+ghost use Prim.Native.Nat.{ℕ, _+_, _*_, _/_, _%_, _≤_, _<_};
 ghost use lib.ListN.{length, getD};
 ghost use Rattle.rules.specs.Finite.{allBelow};
 ghost use Rattle.rules.specs.Levels.{levelOf};
-ghost use Rattle.twins.specs.Standing.{Pair, Stands};
-ghost use Rattle.twins.specs.Halves.{pairOf, Listed, Halves, Midpoints, Held, hasSame};
-ghost use Rattle.twins.specs.Skips.{Skips, Laid};
-use super::agree::first_level;
+ghost use Rattle.twins.specs.Standing.{Pair, Ready};
+ghost use Rattle.twins.specs.Halves.{midpointOf, Listed, Searchable, Halves, Midpoints, Held, hasSame};
+ghost use Rattle.twins.specs.Skips.{Laid};
 use super::agree::number_at;
-use super::agree::second_level;
-use super::agree::splits;
 use super::skips::next_from;
+use super::splits::first_level;
+use super::splits::second_level;
+use super::splits::splits;
 
-// Two numbers in one.
-fn pair_of(a: u32, b: u32) -> u64
-    ensures { λ r. ⌜ r ≡ pairOf a b ⌝ }
+// A split and two numbers in one.
+fn midpoint_of(c: usize, a: u32, b: u32) -> u64
+    requires { ⌜ (c < 3) × (a < 32768) ⌝ }
+    ensures { λ r. ⌜ r ≡ midpointOf c a b ⌝ }
 {
-    (a as u64) * 4294967296 + (b as u64)
+    ((c as u64) * 32768 + (a as u64)) * 4294967296 + (b as u64)
 }
 
 // x was the last to be put in the list.
@@ -32,22 +33,24 @@ fn is_last(list: &[u64], k: usize, x: u64) -> bool
     list[k - 1] == x
 }
 
-// The midpoints of (v,u): first halves by one level, second halves by another. Only items that the first connects with v are looked
-// at; a midpoint that equals the last is left out. Answers how many.
+// Puts the midpoints of (v,u) in split c behind the first k of the list: first halves by one level, second halves by another. Items
+// that the area passes over are not looked at; a midpoint that equals the last is left out. Answers how many the list has now.
 pub fn halves(
     n: usize,
     levels: &[u32],
+    c: usize,
     first: usize,
     second: usize,
     area: &[u8],
     v: usize,
     u: usize,
     list: &mut [u64],
+    k: usize,
 ) -> usize
-    requires { ⌜ (Stands n (now levels) first) × (Stands n (now levels) second) × (Pair n v u) × (n ≤ length (now list)) × (Skips n (levelOf n (now levels) first) (now area)) ⌝ }
-    ensures { λ r. ⌜ Halves n (levelOf n (now (levels .entry)) first) (levelOf n (now (levels .entry)) second) v u n r (now (list .exit)) ⌝ }
+    requires { ⌜ (Searchable n (now levels) (now area) c first second) × (Pair n v u) × (k + n ≤ length (now list)) ⌝ }
+    ensures { λ r. ⌜ Halves n (levelOf n (now (levels .entry)) first) (levelOf n (now (levels .entry)) second) c v u n k (now (list .entry)) r (now (list .exit)) ⌝ }
 {
-    let mut k = 0;
+    let mut at = k;
     let mut m = 0;
     while m < n {
         let w = next_from(n, area, v, m);
@@ -58,17 +61,20 @@ pub fn halves(
         let a = number_at(n, levels, first, v, m);
         let b = number_at(n, levels, second, m, u);
         m += 1;
+        if a == 0 {
+            continue;
+        }
         if b == 0 {
             continue;
         }
-        let x = pair_of(a, b);
-        if is_last(list, k, x) {
+        let x = midpoint_of(c, a, b);
+        if is_last(list, at, x) {
             continue;
         }
-        list[k] = x;
-        k += 1;
+        list[at] = x;
+        at += 1;
     }
-    k
+    at
 }
 
 // Each of the first k midpoints of a list has a twin among the first j of another.
@@ -90,8 +96,7 @@ fn within(list: &[u64], k: usize, other: &[u64], j: usize) -> bool
     all
 }
 
-// The midpoints of the pair at p for the search of level i; none where it has no split. They are of split 0: while the halves of
-// every split are of one level, the list serves them all. Answers how many.
+// The midpoints of the pair at p in every split of level i. Answers how many.
 pub fn midpoints(
     n: usize,
     i: usize,
@@ -100,15 +105,21 @@ pub fn midpoints(
     p: usize,
     list: &mut [u64],
 ) -> usize
-    requires { ⌜ (Stands n (now levels) i) × (p < n * n) × (n ≤ length (now list)) × (Laid n i (now levels) (now area)) ⌝ }
+    requires { ⌜ (Ready n i (now levels) (now area)) × (p < n * n) × (384 ≤ length (now list)) × (Laid n i (now levels) (now area)) ⌝ }
     ensures { λ r. ⌜ Midpoints n i (now (levels .entry)) (p / n) (p % n) r (now (list .exit)) ⌝ }
 {
-    if splits(i) == 0 {
-        return 0;
+    let count = splits(i);
+    let v = p / n;
+    let u = p % n;
+    let mut k = 0;
+    let mut c = 0;
+    while c < count {
+        let first = first_level(i, c);
+        let second = second_level(i, c);
+        k = halves(n, levels, c, first, second, area, v, u, list, k);
+        c += 1;
     }
-    let a = first_level(i, 0);
-    let b = second_level(i, 0);
-    halves(n, levels, a, b, area, p / n, p % n, list)
+    k
 }
 
 // The same, kept: where the list tells that the midpoints of p stand in it, they are not looked for again.
@@ -120,15 +131,15 @@ pub fn kept_midpoints(
     p: usize,
     list: &mut [u64],
 ) -> usize
-    requires { ⌜ (n ≤ 128) × (Stands n (now levels) i) × (p < n * n) × (Held n i (now levels) (now list)) × (Laid n i (now levels) (now area)) ⌝ }
+    requires { ⌜ (Ready n i (now levels) (now area)) × (p < n * n) × (Held n i (now levels) (now list)) × (Laid n i (now levels) (now area)) ⌝ }
     ensures { λ r. ⌜ (Midpoints n i (now (levels .entry)) (p / n) (p % n) r (now (list .exit))) × (Held n i (now (levels .entry)) (now (list .exit))) ⌝ }
 {
-    if list[128] == p as u64 + 1 {
-        return list[129] as usize;
+    if list[384] == p as u64 + 1 {
+        return list[385] as usize;
     }
     let k = midpoints(n, i, levels, area, p, list);
-    list[128] = p as u64 + 1;
-    list[129] = k as u64;
+    list[384] = p as u64 + 1;
+    list[385] = k as u64;
     k
 }
 

@@ -5,3 +5,4 @@ pub mod hashes;
 pub mod marks;
 pub mod near;
 pub mod skips;
+pub mod splits;

@@ -1,13 +1,12 @@
-// The items that a level connects with each item, so that a search over midpoints passes over the others.
+// The items that the level below connects with each item, so that a search over midpoints passes over the others.
 ghost use mathlib.Core.Path.{_≡_};
 ghost use Prim.Native.Nat.{ℕ, _+_, _*_, _<_, _≤_};
 ghost use lib.ListN.{length, getD};
 ghost use Rattle.rules.specs.Levels.{levelOf};
 ghost use Rattle.twins.specs.Standing.{Pair, Stands, Ready};
 ghost use Rattle.twins.specs.Skips.{Skips, Laid, SkipRow, Aside};
-use super::agree::first_level;
 use super::agree::number_at;
-use super::agree::splits;
+use super::splits::splits;
 
 // The first connected item from m on, where `next` is the first behind m, and x is the number of m.
 fn nearer(x: u32, m: usize, next: usize) -> usize
@@ -53,8 +52,8 @@ pub fn next_from(n: usize, area: &[u8], v: usize, m: usize) -> usize
     area[8 * (n * n) + (v * n + m)] as usize
 }
 
-// Lays out what the search over midpoints of level i goes by. It is of split 0: while the first halves of every split are of
-// one level, it serves them all.
+// Lays out what the search over midpoints of level i goes by. It is of level i-1, and serves every split: what a lower level connects,
+// level i-1 connects too.
 pub fn lay_out(n: usize, i: usize, levels: &[u32], area: &mut [u8])
     requires { ⌜ Ready n i (now levels) (now area) ⌝ }
     ensures { λ _. ⌜ (Laid n i (now (levels .entry)) (now (area .exit))) × (Aside n (now (area .entry)) (now (area .exit))) ⌝ }
@@ -62,5 +61,5 @@ pub fn lay_out(n: usize, i: usize, levels: &[u32], area: &mut [u8])
     if splits(i) == 0 {
         return;
     }
-    skip_rows(n, levels, first_level(i, 0), area);
+    skip_rows(n, levels, i - 1, area);
 }

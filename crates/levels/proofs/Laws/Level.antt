@@ -56,6 +56,7 @@ module _ (n i : ℕ) (l area : List ℕ) (ready : Ready n i l area) where
         record {
           few = ready .few;
           some = ready .some;
+          short = ready .short;
           room = rw (length-put l (base n i) s h) (ready .room);
           area-room = ready .area-room;
           below = accepted-same rule (markedGraph n area) (i - 1) (levelOf n l) (levelOf n (put l (base n i) s))

@@ -76,6 +76,7 @@ module _ (n : ℕ) (area l : List ℕ) where
       (record {
         few = r .few;
         some = omega arith;
+        short = omega (arith, r .short);
         room = rw (front-size k i (omega arith) (r .levels-room)) (omega (arith, mul-le-mul-right {m = suc i} {n = k} (n * n) h, r .levels-room));
         area-room = r .area-room;
         below = rw (less-one i)
@@ -168,6 +169,7 @@ module _ (n i j k : ℕ) (l w w' : List ℕ) where
       (record {
         few = r .few;
         some = omega arith;
+        short = omega (arith, r .short);
         room = omega (arith, mul-le-mul-right {m = suc i} {n = k} (n * n) h, r .levels-room);
         area-room = r .area-room;
         below = rw (less-one i) (right-accepted rule (markedGraph n w) (levelOf n l) i so-far);

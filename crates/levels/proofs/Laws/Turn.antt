@@ -1,23 +1,18 @@
 -- A turn of the numbering, over the levels and the area as it leaves them.
 use Prim.Native.Nat.{ℕ, _+_, _*_, _/_, _%_, _≤_, _<_}
 use mathlib.Core.Path.{_≡_, refl, sym, ap, ap₂, _∙_, fun-ext}
-use mathlib.Core.Logic.{_⊎_, inl, inr, ⊎-elim}
 use mathlib.Core.List.{List}
-use mathlib.Core.Bool.{Bool, true, false, cond}
-use native.Mathlib.Nat.{eq-zero-or-pos}
+use mathlib.Core.Bool.{Bool}
 use native.Mathlib.Omega.{arith}
-use lib.Dec.{eqb}
 use lib.ListN.{length, getD, take, drop}
 use lib.Seq.{take-take, drop-drop, getD-take}
-use borrow.Author.Tests.{eqb-false}
 use Rattle.rules.specs.Rule.{rule}
 use Rattle.rules.specs.Levels.{levelOf, nextNumber}
 use Rattle.rules.specs.Writing.{put, fill}
-use Rattle.rules.proofs.Laws.Tests.{either}
 use Rattle.rules.proofs.Laws.Writing.{getD-fill-in, length-fill}
 use Rattle.rules.specs.Accept.{levelOk}
 use Rattle.twins.specs.Marks.{markedGraph}
-use Rattle.twins.specs.Chains.{Chains, word, headOf, keyOf, splitMost, mostOf, bucketOf}
+use Rattle.twins.specs.Chains.{Chains, word, headOf, keyOf, bucketOf}
 use Rattle.twins.specs.Skips.{Laid}
 use Rattle.twins.specs.Standing.{Ready, Near, Kept, base, isIn, alike, nearByte}
 use Rattle.levels.specs.Needs.{Begun, Steady, Positioned, Numbered, Passed, Faulty}
@@ -26,6 +21,7 @@ use Rattle.levels.proofs.Laws.Level.{numbers, still-ready, same-below, 
 use Rattle.levels.proofs.Laws.Chains.{chains-start}
 use Rattle.levels.proofs.Laws.Taken.{steady-trans}
 use Rattle.twins.proofs.Laws.Skips.{laid-kept}
+use Rattle.twins.proofs.Laws.Signature.{most-kept}
 
 pub steady-marks : (n : ℕ) (w w' : List ℕ) → Steady n w w' → take (n * n) w' ≡ take (n * n) w
 steady-marks n w w' s =
@@ -60,21 +56,11 @@ near-steady n i w w' near s =
 -- a bucket is made of the marks and the levels below
 bucket-kept : (n i : ℕ) (l l' w w' : List ℕ) → take (n * n) w' ≡ take (n * n) w → ((j : ℕ) → j < i → levelOf n l' j ≡ levelOf n l j)
     → bucketOf n i l' w' ≡ bucketOf n i l w
-unfolding bucketOf keyOf mostOf splitMost
-bucket-kept n i l l' w w' e below = fun-ext (λ p. ap (λ (z : ℕ). z % (n * n)) (ap₂ _+_ (key p) (most p (either (eqb (rule .many i) 0)))))
+unfolding bucketOf keyOf
+bucket-kept n i l l' w w' e below = fun-ext (λ p. ap (λ (z : ℕ). z % (n * n)) (ap₂ _+_ (key p) (most-kept n i l l' below p)))
   where
     key : (p : ℕ) → getD (take (n * n) w') p 0 + 256 * getD (take (n * n) w') (p % n * n + p / n) 0 ≡ getD (take (n * n) w) p 0 + 256 * getD (take (n * n) w) (p % n * n + p / n) 0
     key p = ap (λ (z : List ℕ). getD z p 0 + 256 * getD z (p % n * n + p / n) 0) e
-
-    over : (p : ℕ) → 0 < rule .many i → splitMost n i l' p ≡ splitMost n i l p
-    over p h = rw (below (rule .first i 0) (rule .first-below i 0 h), below (rule .second i 0) (rule .second-below i 0 h)) refl
-
-    most : (p : ℕ) → (eqb (rule .many i) 0 ≡ true) ⊎ (eqb (rule .many i) 0 ≡ false) → cond (eqb (rule .many i) 0) 0 (splitMost n i l' p) ≡ cond (eqb (rule .many i) 0) 0 (splitMost n i l p)
-    most p (inl t) = rw t refl
-    most p (inr t) =
-        let k = eqb-false (rule .many i) 0 t in
-        let h : 0 < rule .many i = ⊎-elim (λ z. absurd (k z)) (λ b. b) (eq-zero-or-pos (rule .many i)) in
-        rw t (over p h)
 
 module _ (n i : ℕ) (l w : List ℕ) (ready : Ready n i l w) (p : ℕ) (l' : List ℕ) (e : l' ≡ put l (base n i) (numbers n i l w ready p)) (h : p ≤ n * n)
     (w' : List ℕ) (s : Steady n w w') where

@@ -1,5 +1,5 @@
 -- The tests of agreement, one after the other, as the code makes them.
-use Prim.Native.Nat.{ℕ, _*_, _/_, _%_, _<_}
+use Prim.Native.Nat.{ℕ, _*_, _/_, _%_}
 use mathlib.Core.Path.{_≡_, refl, sym, _∙_}
 use mathlib.Core.List.{List}
 use mathlib.Core.Bool.{Bool, true, false, not, _&&_}
@@ -8,7 +8,7 @@ use native.Mathlib.Nat.{mul-le-mul-right}
 use borrow.Author.Tests.{not-true}
 use Rattle.rules.specs.Finite.{allBelow}
 use Rattle.rules.specs.Graph.{Graph}
-use Rattle.rules.specs.Rule.{Rule, rule}
+use Rattle.rules.specs.Rule.{Rule}
 use Rattle.rules.specs.Levels.{sameEnds, sameSteps, splitOk, agree, agreeAt}
 use Rattle.rules.proofs.Laws.Tests.{and-left, and-right, not-true-of, not-both}
 use Rattle.twins.specs.Standing.{Stands}
@@ -32,17 +32,6 @@ module _ (ρ : Rule) (g : Graph) (i : ℕ) (T : ℕ → List ℕ) (v u x y : ℕ
       (λ t. not-both (sameSteps g v u x y)
       (and-right (sameEnds g v u x y) (sameSteps g v u x y) (and-left (sameEnds g v u x y && sameSteps g v u x y) (allBelow (ρ .many i) (splitOk ρ g i T v u x y)) t))
       (sym h ∙ not-true r k))
-
--- the levels of both halves stand
-module _ (n i : ℕ) (levels : List ℕ) (st : Stands n levels i) (c : ℕ) {count : ℕ} (many : count ≡ rule .many i) (l : c < count) where
-  lower : (a : ℕ) → 0 < a → a < i → Stands n levels a
-  lower a p h = record { some = p; room = omega (arith, mul-le-mul-right {m = a} {n = i} (n * n) (omega arith), st .room) }
-
-  pub first-stands : {a : ℕ} → a ≡ rule .first i c → Stands n levels a
-  first-stands {a} e = let l' = rw many at l in lower a (rw e (rule .first-some i c l')) (rw e (rule .first-below i c l'))
-
-  pub second-stands : {a : ℕ} → a ≡ rule .second i c → Stands n levels a
-  second-stands {a} e = let l' = rw many at l in lower a (rw e (rule .second-some i c l')) (rw e (rule .second-below i c l'))
 
 -- agreement at two positions
 pub at-is : (ρ : Rule) (g : Graph) (i : ℕ) (T : ℕ → List ℕ) (p q : ℕ) → agree ρ g i T (p / g .items) (p % g .items) (q / g .items) (q % g .items) ≡ agreeAt ρ g i T p q

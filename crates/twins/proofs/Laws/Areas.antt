@@ -40,6 +40,7 @@ ready-area n i l w w' r e s =
     record {
       few = r .few;
       some = r .some;
+      short = r .short;
       room = r .room;
       area-room = rw s (r .area-room);
       below = rw (edges-kept n w w' e) (r .below);

@@ -3,24 +3,22 @@ use Prim.Native.Nat.{ℕ, zero, suc, _+_, _*_, _/_, _%_, _≤_, _<_, max}
 use mathlib.Core.Path.{_≡_, refl, sym, ap, ap₂, _∙_}
 use mathlib.Core.Logic.{_⊎_, inl, inr, ⊎-elim}
 use mathlib.Core.List.{List}
-use mathlib.Core.Bool.{true, false, cond}
-use native.Mathlib.Nat.{le-antisymm, div-add-mod', mod-lt, eq-zero-or-pos}
+use mathlib.Core.Bool.{true}
+use native.Mathlib.Nat.{le-antisymm, le-trans, div-add-mod', mod-lt, eq-zero-or-pos}
 use native.Mathlib.Numerals.{add-one}
 use native.Mathlib.Omega.{arith}
-use lib.Dec.{eqb}
 use lib.ListN.{getD}
 use lib.Seq.{getD-take}
-use borrow.Author.Tests.{eq-eqb, ne-eqb, eqb-false}
+use borrow.Author.Tests.{eq-eqb, ne-eqb}
 use Rattle.rules.specs.Rule.{rule}
 use Rattle.rules.specs.Levels.{numberAt, levelOf, agreeAt}
-use Rattle.rules.proofs.Laws.Tests.{either}
 use Rattle.rules.proofs.Laws.Finite.{below-cases}
 use Rattle.rules.proofs.Laws.Places.{place-lt, row-lt, column-lt}
 use Rattle.rules.proofs.Laws.Agree.{Twins, Agree, agree-find}
 use Rattle.rules.proofs.Laws.Ends.{steps-here}
 use Rattle.twins.specs.Marks.{markedGraph}
-use Rattle.twins.specs.Chains.{keyOf, mixOf, hashOf, midHash, mostBelow, Raised, hashAt, Mosts, pairMost, fourOf, splitMost, mostOf, bucketOf}
-use Rattle.twins.specs.Halves.{pairOf, Halves}
+use Rattle.twins.specs.Chains.{keyOf, mixOf, hashOf, midHash, mostBelow, Raised, hashAt, Mosts, splitMost, pairMost, fourOf, mostOf, bucketOf}
+use Rattle.twins.specs.Halves.{midpointOf, Midpoints}
 use Rattle.twins.proofs.Laws.Marks.{steps-there, steps-back}
 
 -- the largest below a bound
@@ -38,62 +36,75 @@ unfolding mostBelow
 most-bound zero f k h = omega arith
 most-bound (suc n) f k h = omega (arith, most-bound n f k (λ m l. h m (omega arith)), h n (omega arith))
 
+most-alike : (n : ℕ) (f g : ℕ → ℕ) → ((m : ℕ) → m < n → f m ≡ g m) → mostBelow n f ≡ mostBelow n g
+unfolding mostBelow
+most-alike zero f g h = refl
+most-alike (suc n) f g h = ap₂ max (most-alike n f g (λ m l. h m (omega arith))) (h n (omega arith))
+
 -- of one midpoint
-module _ (k n : ℕ) (s t : List ℕ) (v u m : ℕ) where
-  pub mid-first : {a : ℕ} → a ≡ numberAt n s v m → a ≡ 0 → midHash k n s t v u m ≡ 0
+module _ (k n : ℕ) (s t : List ℕ) (c v u m : ℕ) where
+  mid-first : numberAt n s v m ≡ 0 → midHash k n s t c v u m ≡ 0
   unfolding midHash
-  mid-first e z = rw (eq-eqb (numberAt n s v m) 0 (sym e ∙ z)) refl
+  mid-first z = rw (eq-eqb (numberAt n s v m) 0 z) refl
 
-  pub mid-second : {a b : ℕ} → a ≡ numberAt n s v m → (a ≡ 0 → ⊥) → b ≡ numberAt n t m u → b ≡ 0 → midHash k n s t v u m ≡ 0
+  mid-second : 0 < numberAt n s v m → numberAt n t m u ≡ 0 → midHash k n s t c v u m ≡ 0
   unfolding midHash
-  mid-second e d f z = rw (ne-eqb (numberAt n s v m) 0 (λ q. d (e ∙ q)), eq-eqb (numberAt n t m u) 0 (sym f ∙ z)) refl
+  mid-second l z = rw (ne-eqb (numberAt n s v m) 0 (λ q. omega arith), eq-eqb (numberAt n t m u) 0 z) refl
 
-  pub mid-both : {a b : ℕ} → a ≡ numberAt n s v m → (a ≡ 0 → ⊥) → b ≡ numberAt n t m u → (b ≡ 0 → ⊥) → midHash k n s t v u m ≡ hashOf k (pairOf a b)
+  mid-both : 0 < numberAt n s v m → 0 < numberAt n t m u → midHash k n s t c v u m ≡ hashOf k (midpointOf c (numberAt n s v m) (numberAt n t m u))
   unfolding midHash
-  mid-both e d f l = rw (ne-eqb (numberAt n s v m) 0 (λ q. d (e ∙ q)), ne-eqb (numberAt n t m u) 0 (λ q. l (f ∙ q)), e, f) refl
+  mid-both a b = rw (ne-eqb (numberAt n s v m) 0 (λ q. omega arith), ne-eqb (numberAt n t m u) 0 (λ q. omega arith)) refl
+
+  -- where every midpoint's hash is below a bound, so are all
+  mid-bound : (most : ℕ) → (0 < numberAt n s v m → 0 < numberAt n t m u → hashOf k (midpointOf c (numberAt n s v m) (numberAt n t m u)) ≤ most) → midHash k n s t c v u m ≤ most
+  mid-bound most f = at (eq-zero-or-pos (numberAt n s v m)) (eq-zero-or-pos (numberAt n t m u))
+    where
+      at : (numberAt n s v m ≡ 0) ⊎ (0 < numberAt n s v m) → (numberAt n t m u ≡ 0) ⊎ (0 < numberAt n t m u) → midHash k n s t c v u m ≤ most
+      at (inl z) b = omega (arith, mid-first z)
+      at (inr a) (inl z) = omega (arith, mid-second a z)
+      at (inr a) (inr b) = omega (arith, mid-both a b, f a b)
 
 -- twins one way: no midpoint has a larger hash
-most-twins : (k n : ℕ) (s t : List ℕ) (v u x y : ℕ) → Twins n s t v u x y → mostBelow n (midHash k n s t v u) ≤ mostBelow n (midHash k n s t x y)
-most-twins k n s t v u x y tw = most-bound n (midHash k n s t v u) (mostBelow n (midHash k n s t x y)) (λ m h. at m h (eq-zero-or-pos (numberAt n s v m)) (eq-zero-or-pos (numberAt n t m u)))
-  where
-    at : (m : ℕ) → m < n → (numberAt n s v m ≡ 0) ⊎ (0 < numberAt n s v m) → (numberAt n t m u ≡ 0) ⊎ (0 < numberAt n t m u)
-        → midHash k n s t v u m ≤ mostBelow n (midHash k n s t x y)
-    at m h (inl z) b = omega (arith, mid-first k n s t v u m refl z)
-    at m h (inr a) (inl z) = omega (arith, mid-second k n s t v u m refl (λ q. omega arith) refl z)
-    at m h (inr a) (inr b) =
-        let r = tw .twin m h a b in
-        let e = mid-both k n s t v u m refl (λ q. omega arith) refl (λ q. omega arith) in
-        let f = mid-both k n s t x y (r .0) (r .2) (λ q. omega arith) (r .3) (λ q. omega arith) in
-        omega (arith, e, f, most-at n (midHash k n s t x y) (r .0) (r .1))
+most-twins : (k n : ℕ) (s t : List ℕ) (c v u x y : ℕ) → Twins n s t v u x y → mostBelow n (midHash k n s t c v u) ≤ mostBelow n (midHash k n s t c x y)
+most-twins k n s t c v u x y tw =
+    let most = mostBelow n (midHash k n s t c x y) in
+    most-bound n (midHash k n s t c v u) most
+    (λ m h. mid-bound k n s t c v u m most
+    (λ a b.
+    let r = tw .twin m h a b in
+    let e = mid-both k n s t c x y (r .0) (omega (arith, r .2)) (omega (arith, r .3)) in
+    omega (arith, e, ap (hashOf k) (ap₂ (midpointOf c) (r .2) (r .3)), most-at n (midHash k n s t c x y) (r .0) (r .1))))
 
 four-same : (f g : ℕ → ℕ) → ((k : ℕ) → f k ≡ g k) → fourOf f ≡ fourOf g
 unfolding fourOf
 four-same f g e = ap₂ _+_ (ap₂ _+_ (ap₂ _+_ (e 0) (e 1073741824)) (e 2147483648)) (e 3221225472)
 
--- twins both ways: one largest hash
-pair-same : (k n : ℕ) (s t : List ℕ) (v u x y : ℕ) → Twins n s t v u x y → Twins n s t x y v u → pairMost n s t v u k ≡ pairMost n s t x y k
-unfolding pairMost
-pair-same k n s t v u x y there back = le-antisymm (most-twins k n s t v u x y there) (most-twins k n s t x y v u back)
+-- the largest hashes are those of the levels below
+pub most-kept : (n i : ℕ) (l l' : List ℕ) → ((j : ℕ) → j < i → levelOf n l' j ≡ levelOf n l j) → (p : ℕ) → mostOf n i l' p ≡ mostOf n i l p
+unfolding mostOf pairMost splitMost
+most-kept n i l l' below p =
+    four-same (pairMost n i l' (p / n) (p % n)) (pairMost n i l (p / n) (p % n))
+    (λ k. most-alike (rule .many i) (splitMost n i l' (p / n) (p % n) k) (splitMost n i l (p / n) (p % n) k) (λ c h. split-kept k c h))
+  where
+    split-kept : (k c : ℕ) → c < rule .many i → splitMost n i l' (p / n) (p % n) k c ≡ splitMost n i l (p / n) (p % n) k c
+    split-kept k c h =
+        ap₂ (λ (s t : List ℕ). mostBelow n (midHash k n s t c (p / n) (p % n))) (below (rule .first i c) (rule .first-below i c h)) (below (rule .second i c) (rule .second-below i c h))
 
 module _ (n i : ℕ) (levels area : List ℕ) (bytes : (q : ℕ) → getD area q 0 < 256) where
-  split-same : (p q : ℕ) → 0 < rule .many i → Agree rule (markedGraph n area) i (levelOf n levels) (p / n) (p % n) (q / n) (q % n)
-      → splitMost n i levels p ≡ splitMost n i levels q
+  -- twins both ways: one largest hash in each split
+  split-same : (p q k c : ℕ) → c < rule .many i → Agree rule (markedGraph n area) i (levelOf n levels) (p / n) (p % n) (q / n) (q % n)
+      → splitMost n i levels (p / n) (p % n) k c ≡ splitMost n i levels (q / n) (q % n) k c
   unfolding splitMost
-  split-same p q h a =
-      let s = levelOf n levels (rule .first i 0) in
-      let t = levelOf n levels (rule .second i 0) in
-      four-same (pairMost n s t (p / n) (p % n)) (pairMost n s t (q / n) (q % n)) (λ k. pair-same k n s t (p / n) (p % n) (q / n) (q % n) (a .there 0 h) (a .back 0 h))
+  split-same p q k c h a =
+      let s = levelOf n levels (rule .first i c) in
+      let t = levelOf n levels (rule .second i c) in
+      le-antisymm (most-twins k n s t c (p / n) (p % n) (q / n) (q % n) (a .there c h)) (most-twins k n s t c (q / n) (q % n) (p / n) (p % n) (a .back c h))
 
   most-same : (p q : ℕ) → Agree rule (markedGraph n area) i (levelOf n levels) (p / n) (p % n) (q / n) (q % n) → mostOf n i levels p ≡ mostOf n i levels q
-  unfolding mostOf
-  most-same p q a = go (either (eqb (rule .many i) 0))
-    where
-      go : (eqb (rule .many i) 0 ≡ true) ⊎ (eqb (rule .many i) 0 ≡ false) → cond (eqb (rule .many i) 0) 0 (splitMost n i levels p) ≡ cond (eqb (rule .many i) 0) 0 (splitMost n i levels q)
-      go (inl e) = rw e refl
-      go (inr e) =
-          let d = eqb-false (rule .many i) 0 e in
-          let h : 0 < rule .many i = ⊎-elim (λ z. absurd (d z)) (λ l. l) (eq-zero-or-pos (rule .many i)) in
-          rw e (split-same p q h a)
+  unfolding mostOf pairMost
+  most-same p q a =
+      four-same (pairMost n i levels (p / n) (p % n)) (pairMost n i levels (q / n) (q % n))
+      (λ k. most-alike (rule .many i) (splitMost n i levels (p / n) (p % n) k) (splitMost n i levels (q / n) (q % n) k) (λ c h. split-same p q k c h a))
 
   pub key-read : (p : ℕ) → p < n * n → getD area (p / n * n + p % n) 0 + 256 * getD area (p % n * n + p / n) 0 ≡ keyOf n area p
   unfolding keyOf
@@ -149,53 +160,46 @@ mosts-more list j m r =
     }
 
 -- the list of the midpoints has their largest hash
-module _ (n : ℕ) (s t : List ℕ) (v u k : ℕ) (list : List ℕ) (hs : Halves n s t v u n k list) (turn : ℕ) where
-  listed-le : (j : ℕ) → j < k → hashAt list turn j ≤ mostBelow n (midHash turn n s t v u)
+module _ (n i : ℕ) (levels : List ℕ) (v u k : ℕ) (list : List ℕ) (hm : Midpoints n i levels v u k list) (turn : ℕ) where
+  abbrev hash : ℕ → ℕ → ℕ
+  hash c = midHash turn n (levelOf n levels (rule .first i c)) (levelOf n levels (rule .second i c)) c v u
+
+  mid-le : (c m : ℕ) → c < rule .many i → m < n → hash c m ≤ pairMost n i levels v u turn
+  unfolding pairMost splitMost
+  mid-le c m h l = le-trans (most-at n (hash c) m l) (most-at (rule .many i) (splitMost n i levels v u turn) c h)
+
+  listed-le : (j : ℕ) → j < k → hashAt list turn j ≤ pairMost n i levels v u turn
   unfolding hashAt
   listed-le j h =
-      let r = hs .sound j h in
-      let e = mid-both turn n s t v u (r .item) refl (λ q. omega (arith, r .first)) refl (λ q. omega (arith, r .second)) in
-      omega (arith, ap (hashOf turn) (r .is), e, most-at n (midHash turn n s t v u) (r .item) (r .below))
+      let r = hm .listing .sound j h in
+      let c = r .split in
+      let m = r .half .item in
+      let e = mid-both turn n (levelOf n levels (rule .first i c)) (levelOf n levels (rule .second i c)) c v u m (r .half .first) (r .half .second) in
+      omega (arith, ap (hashOf turn) (r .half .is), e, mid-le c m (r .before) (r .half .below))
 
-  mid-le : (m : ℕ) → m < n → (numberAt n s v m ≡ 0) ⊎ (0 < numberAt n s v m) → (numberAt n t m u ≡ 0) ⊎ (0 < numberAt n t m u)
-      → midHash turn n s t v u m ≤ mostBelow k (hashAt list turn)
-  unfolding hashAt
-  mid-le m h (inl z) b = omega (arith, mid-first turn n s t v u m refl z)
-  mid-le m h (inr a) (inl z) = omega (arith, mid-second turn n s t v u m refl (λ q. omega arith) refl z)
-  mid-le m h (inr a) (inr b) =
-      let l = hs .complete m h a b in
-      let e = mid-both turn n s t v u m refl (λ q. omega arith) refl (λ q. omega arith) in
-      omega (arith, e, ap (hashOf turn) (l .is), most-at k (hashAt list turn) (l .place) (l .below))
+  split-le : (c : ℕ) → c < rule .many i → splitMost n i levels v u turn c ≤ mostBelow k (hashAt list turn)
+  unfolding splitMost hashAt
+  split-le c h =
+      most-bound n (hash c) (mostBelow k (hashAt list turn))
+      (λ m l. mid-bound turn n (levelOf n levels (rule .first i c)) (levelOf n levels (rule .second i c)) c v u m (mostBelow k (hashAt list turn))
+      (λ a b.
+      let r = hm .listing .complete c m h l a b in
+      omega (arith, ap (hashOf turn) (r .is), most-at k (hashAt list turn) (r .place) (r .below))))
 
-  list-most : mostBelow k (hashAt list turn) ≡ pairMost n s t v u turn
+  list-most : mostBelow k (hashAt list turn) ≡ pairMost n i levels v u turn
   unfolding pairMost
   list-most =
       le-antisymm
-      (most-bound k (hashAt list turn) (mostBelow n (midHash turn n s t v u)) listed-le)
-      (most-bound n (midHash turn n s t v u) (mostBelow k (hashAt list turn)) (λ m h. mid-le m h (eq-zero-or-pos (numberAt n s v m)) (eq-zero-or-pos (numberAt n t m u))))
+      (most-bound k (hashAt list turn) (pairMost n i levels v u turn) listed-le)
+      (most-bound (rule .many i) (splitMost n i levels v u turn) (mostBelow k (hashAt list turn)) split-le)
 
--- the first split, where level i has one
-pub split-is : (n i : ℕ) (levels : List ℕ) (p : ℕ) {a b k : ℕ} (list : List ℕ) → a ≡ rule .first i 0 → b ≡ rule .second i 0
-    → Halves n (levelOf n levels a) (levelOf n levels b) (p / n) (p % n) n k list → {x y z w : ℕ} → Mosts list k x y z w → x + y + z + w ≡ splitMost n i levels p
-unfolding splitMost fourOf
-split-is n i levels p {a} {b} {k} list ea eb hs m =
-    let s = levelOf n levels a in
-    let t = levelOf n levels b in
-    rw (← ea, ← eb)
-    (ap₂ _+_ (ap₂ _+_ (ap₂ _+_
-    (m .none ∙ list-most n s t (p / n) (p % n) k list hs 0)
-    (m .quarter ∙ list-most n s t (p / n) (p % n) k list hs 1073741824))
-    (m .half ∙ list-most n s t (p / n) (p % n) k list hs 2147483648))
-    (m .most ∙ list-most n s t (p / n) (p % n) k list hs 3221225472))
-
-pub most-none : (n i : ℕ) (levels : List ℕ) (p : ℕ) {count : ℕ} → count ≡ rule .many i → count ≡ 0 → 0 ≡ mostOf n i levels p
-unfolding mostOf
-most-none n i levels p e z = rw (eq-eqb (rule .many i) 0 (sym e ∙ z)) refl
-
-pub most-some : (n i : ℕ) (levels : List ℕ) (p : ℕ) {count x : ℕ} → count ≡ rule .many i → (count ≡ 0 → ⊥)
-    → x ≡ splitMost n i levels p → x ≡ mostOf n i levels p
-unfolding mostOf
-most-some n i levels p e d ex = rw (ne-eqb (rule .many i) 0 (λ z. d (e ∙ z))) ex
+-- the hashes of the list are those of the position
+pub listed-most : (n i : ℕ) (levels : List ℕ) (p k : ℕ) (list : List ℕ) → Midpoints n i levels (p / n) (p % n) k list → {a b c d : ℕ} → Mosts list k a b c d
+    → a + b + c + d ≡ mostOf n i levels p
+unfolding mostOf fourOf
+listed-most n i levels p k list hm m =
+    let is = list-most n i levels (p / n) (p % n) k list hm in
+    ap₂ _+_ (ap₂ _+_ (ap₂ _+_ (m .none ∙ is 0) (m .quarter ∙ is 1073741824)) (m .half ∙ is 2147483648)) (m .most ∙ is 3221225472)
 
 -- what the bucket of a position is
 pub bucket-is : (n i : ℕ) (levels area : List ℕ) (p : ℕ) → p < n * n → ((q : ℕ) → getD area q 0 < 256) → {x y h : ℕ}

@@ -11,11 +11,10 @@ use Rattle.rules.specs.Rule.{rule}
 use Rattle.rules.specs.Levels.{numberAt, levelOf}
 use Rattle.rules.proofs.Laws.Places.{place-lt, row-fits}
 use Rattle.twins.specs.Skips.{Next, Skips, Laid, SkipRow, Aside}
-use Rattle.twins.proofs.Laws.Tables.{rule-first}
 
 module _ (n : ℕ) (s : List ℕ) (v : ℕ) where
   pub next-end : Next n s v n n
-  next-end = record { up = omega arith; few = omega arith; zeros = λ x a b. absurd (omega arith); some = λ h. absurd (omega arith) }
+  next-end = record { up = omega arith; few = omega arith; zeros = λ x a b. absurd (omega arith) }
 
   -- from one item further down
   pub next-down : (m w : ℕ) {x r : ℕ} → 0 < m → m ≤ n → Next n s v m w → x ≡ numberAt n s v (m - 1)
@@ -30,11 +29,10 @@ module _ (n : ℕ) (s : List ℕ) (v : ℕ) where
             (λ (f : m - 1 ≡ y). rw (← f) (sym e ∙ z))
             (λ (l : m - 1 < y). d .zeros y (omega arith) b)
             (eq-or-lt-of-le a);
-        some = d .some;
       }))
       (λ (l : 0 < x).
       rw (k .1 (λ z. omega arith))
-      (record { up = omega arith; few = omega arith; zeros = λ y a b. absurd (omega arith); some = λ q. omega (arith, e) }))
+      (record { up = omega arith; few = omega arith; zeros = λ y a b. absurd (omega arith) }))
       (eq-zero-or-pos x)
 
 -- the row of v is written from item m on
@@ -114,14 +112,6 @@ aside-refl n area = record { front = refl; rest = refl; size = refl }
 -- no split, nothing to lay out
 pub laid-none : (n i : ℕ) (levels area : List ℕ) {k : ℕ} → k ≡ rule .many i → k ≡ 0 → 9 * (n * n) ≤ length area → (Laid n i levels area) × (Aside n area area)
 laid-none n i levels area e z room = (record { room = room; skips = λ c h. absurd (omega (arith, e)) }, aside-refl n area)
-
--- what is laid out for split 0 serves all: the first halves are of one level
-pub laid-some : (n i : ℕ) (levels area : List ℕ) {a : ℕ} → 0 < i → a ≡ rule .first i 0 → Skips n (levelOf n levels a) area → Laid n i levels area
-laid-some n i levels area {a} h e k =
-    record {
-      room = k .room;
-      skips = λ c l. rw (sym (rule-first i c h) ∙ rule-first i 0 h ∙ sym e) k;
-    }
 
 -- bytes from 6·n² on stay
 pub far-same : (n : ℕ) (w w' : List ℕ) → drop (6 * (n * n)) w' ≡ drop (6 * (n * n)) w → (q : ℕ) → 6 * (n * n) ≤ q → getD w' q 0 ≡ getD w q 0

@@ -42,7 +42,7 @@ kept-midpoints-requires c κs =
     let l = t .before in
     let a = l .before .before .before .before .before .before in
     let m = walk-met _ _ _ _ _ _ _ (t .loop-test .taken) (l .loop .inv .0) in
-    (a .pre .0 .few, record { some = a .pre .0 .some; room = a .pre .0 .room }, omega (arith, m .before), l .loop .inv .1, a .pre .5)
+    (a .pre .0, omega (arith, m .before), l .loop .inv .1, a .pre .5)
 
 div-agree : tie.Need-div-agree Inv-loop μ-loop
 div-agree c = some-items _ _ (c .before .before .before .before .before .before .before .before .before .before .before .pre .1)

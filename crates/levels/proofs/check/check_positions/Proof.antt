@@ -27,7 +27,7 @@ use Rattle.levels.proofs.check.check_positions.Tie as tie
 abbrev Inv-loop : tie.InvT-loop
 Inv-loop n i levels area₀ start mine₀ other₀ top₀ p₀ area mine other top p =
     (p ≤ n * n) × (top ≤ p) × (top ≡ maxOf (take p (levelOf n levels i))) × (anyBelow p (isFault rule (markedGraph n area₀) i (levelOf n levels)) ≡ false)
-    × (Firsts n i levels area top) × (Steady n area₀ area) × (Held n i levels other) × (length mine ≡ 128)
+    × (Firsts n i levels area top) × (Steady n area₀ area) × (Held n i levels other) × (length mine ≡ 384)
 
 abbrev μ-loop : tie.MeasureT-loop
 μ-loop n i levels area₀ start mine₀ other₀ top₀ p₀ area mine other top p = n * n - p
@@ -43,7 +43,7 @@ mul-start-2 c = let a = c .before .before in omega (arith, base-next (a .args .n
 
 loop-holds : tie.Need-loop-holds Inv-loop μ-loop
 unfolding maxOf
-loop-holds c = (omega arith, omega arith, refl, any-start _, firsts-start _ _ _ _, steady-refl _ _, held-none _ _ _ _ refl (getD-zeros 130 128), refl)
+loop-holds c = (omega arith, omega arith, refl, any-start _, firsts-start _ _ _ _, steady-refl _ _, held-none _ _ _ _ refl (getD-zeros 386 384), refl)
 
 mul-loop : tie.Need-mul-loop Inv-loop μ-loop
 mul-loop c = let a = c .before .before .before in omega (arith, base-next (a .args .n) (a .args .i) (a .pre .0 .some))
@@ -65,7 +65,7 @@ is-right-requires c κs =
       i .4,
       laid-steady _ _ _ _ _ (i .5) (a .pre .2),
       i .6,
-      omega (arith, i .7, a .pre .0 .few),
+      omega (arith, i .7),
     )
 
 same-length : tie.Need-same-length Inv-loop μ-loop

@@ -25,7 +25,7 @@ use Rattle.levels.proofs.number.number_positions.Tie as tie
 abbrev Inv-loop : tie.InvT-loop
 Inv-loop n i levels₀ area₀ start mine₀ other₀ top₀ p₀ levels area mine other top p =
     (p ≤ n * n) × (top ≤ p) × (top ≡ maxOf (numbering (isIn n i area₀) (alike n i levels₀ area₀) p)) × (levels ≡ put levels₀ (base n i) (numbering (isIn n i area₀) (alike n i levels₀ area₀) p))
-    × (Chains (isIn n i area₀) (alike n i levels₀ area₀) (bucketOf n i levels₀ area₀) n area p) × (Steady n area₀ area) × (Held n i levels₀ other) × (length mine ≡ 128)
+    × (Chains (isIn n i area₀) (alike n i levels₀ area₀) (bucketOf n i levels₀ area₀) n area p) × (Steady n area₀ area) × (Held n i levels₀ other) × (length mine ≡ 384)
 
 abbrev μ-loop : tie.MeasureT-loop
 μ-loop n i levels₀ area₀ start mine₀ other₀ top₀ p₀ levels area mine other top p = n * n - p
@@ -48,7 +48,7 @@ mul-start-2 c = let a = c .before .before in omega (arith, base-next (a .args .n
 
 loop-holds : tie.Need-loop-holds Inv-loop μ-loop
 unfolding numbering maxOf
-loop-holds c = (omega arith, omega arith, refl, sym (put-none _ _), c .before .before .pre .2, steady-refl _ _, held-none _ _ _ _ refl (getD-zeros 130 128), refl)
+loop-holds c = (omega arith, omega arith, refl, sym (put-none _ _), c .before .before .pre .2, steady-refl _ _, held-none _ _ _ _ refl (getD-zeros 386 384), refl)
 
 mul-loop : tie.Need-mul-loop Inv-loop μ-loop
 mul-loop c = let a = c .before .before .before in omega (arith, base-next (a .args .n) (a .args .i) (a .pre .0 .some))
@@ -72,7 +72,7 @@ next-number-requires c κs =
       turn-chains _ _ _ _ r _ _ (i .3) (i .0) _ (i .5) _ _ (i .4),
       turn-laid _ _ _ _ r _ _ (i .3) (i .0) _ (i .5) (a .pre .3),
       held-kept _ _ _ _ _ (same-below _ _ _ _ r _ _ (i .3) (i .0)) (i .6),
-      omega (arith, i .7, r .few),
+      omega (arith, i .7),
     )
 
 add-levels : tie.Need-add-levels Inv-loop μ-loop

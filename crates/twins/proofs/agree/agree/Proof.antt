@@ -25,9 +25,7 @@ returns-3 c =
     let e2 = c .before in
     let s = e2 .before in
     let e1 = s .before in
-    let n = e1 .before in
-    let a = n .before .before .before .before in
-    λ i levels hm ho. agree-lists _ _ i levels _ _ _ _ (a .pre .1 .second) (a .pre .2 .second) _ _ _ _ hm ho (n .same-ends .ensures _) (e1 .if1 .left) (s .same-steps .ensures) (e2 .if2 .left)
+    λ i levels hm ho. agree-lists _ _ i levels _ _ _ _ _ _ _ _ hm ho (e1 .before .same-ends .ensures _) (e1 .if1 .left) (s .same-steps .ensures) (e2 .if2 .left)
     (c .same-midpoints .ensures)
 
 pub agree-spec : {M : Type 1} → statement M

@@ -15,7 +15,7 @@ slice-read-result : tie.Need-slice-read-result
 slice-read-result c = search needs
 
 returns : tie.Need-returns
-returns c = let a = c .before .before .before .before .before .before in (held-old _ _ _ _ _ (a .pre .3) (c .before .if1 .taken), a .pre .3)
+returns c = let a = c .before .before .before .before .before .before in (held-old _ _ _ _ _ (a .pre .2) (c .before .if1 .taken), a .pre .2)
 
 midpoints-requires : tie.Need-midpoints-requires
 midpoints-requires c κs = search needs
@@ -34,9 +34,7 @@ same-length c = search needs
 
 returns-2 : tie.Need-returns-2
 returns-2 c =
-    let m = c .before .before in
-    let a = m .before .before .before .before .before .before .before in
-    held-new _ _ _ _ _ _ (a .pre .0) (search needs) (m .midpoints .ensures)
+    held-new _ _ _ _ _ _ (search needs) (c .before .before .midpoints .ensures)
 
 pub kept-midpoints-spec : {M : Type 1} → statement M
 kept-midpoints-spec =

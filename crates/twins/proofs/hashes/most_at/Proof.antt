@@ -1,7 +1,7 @@
 -- A list of midpoints has their four largest hashes (`listed-most`); each is below 2^32, so the sum fits.
 use native.Mathlib.Omega.{arith}
 use borrow.Author.Needs.{needs}
-use Rattle.twins.proofs.Laws.Midpoints.{listed-most}
+use Rattle.twins.proofs.Laws.Signature.{listed-most}
 use Rattle.twins.proofs.hashes.most_at.Statement.{statement}
 use Rattle.twins.proofs.hashes.most_at.Tie as tie
 
