@@ -1,111 +1,60 @@
 -- The invariant: the first p numbers of the level below stand in their place.
 use Prim.Native.Nat.{_*_, _-_, _≤_}
-use mathlib.Core.Path.{_≡_}
+use mathlib.Core.Path.{_≡_, refl}
 use native.Mathlib.Omega.{arith}
-use lib.ListN.{take}
+use lib.ListN.{length, take, length-set}
 use Rattle.rules.specs.Levels.{levelOf}
 use Rattle.rules.specs.Writing.{put}
 use Rattle.twins.specs.Standing.{base}
-use Rattle.levels.proofs.Laws.Repeat.{two-rooms, copy-start, copy-size, copy-more, copy-done}
+use Rattle.levels.proofs.Laws.Repeat.{Places, places, lower-stands, copy-start, copy-more, copy-done}
 use Rattle.levels.proofs.repeat.copy_below.Statement.{statement}
 use Rattle.levels.proofs.repeat.copy_below.Tie as tie
 
 abbrev Inv-loop : tie.InvT-loop
-Inv-loop n i levels₀ upper lower p₀ levels p = (p ≤ n * n) × (levels ≡ put levels₀ (base n i) (take p (levelOf n levels₀ (i - 1))))
+Inv-loop n i levels₀ upper lower p₀ levels p =
+    (p ≤ n * n) × (Places n i levels₀ upper lower) × (length levels ≡ length levels₀) × (levels ≡ put levels₀ (base n i) (take p (levelOf n levels₀ (i - 1))))
 
 abbrev μ-loop : tie.MeasureT-loop
 μ-loop n i levels₀ upper lower p₀ levels p = n * n - p
 
-sub-upper : tie.Need-sub-upper Inv-loop μ-loop
-sub-upper c = omega arith
+start-of-requires : tie.Need-start-of-requires Inv-loop μ-loop
+start-of-requires c κs = c .before .before .pre .0
 
-mul-upper : tie.Need-mul-upper Inv-loop μ-loop
-mul-upper c =
-    let a = c in
-    let r = two-rooms _ _ _ (a .pre .0) (a .pre .1) in
-    omega (arith, r .0, r .1)
+sub-start-of : tie.Need-sub-start-of Inv-loop μ-loop
+sub-start-of c = omega arith
 
-mul-upper-2 : tie.Need-mul-upper-2 Inv-loop μ-loop
-mul-upper-2 c =
-    let a = c in
-    let r = two-rooms _ _ _ (a .pre .0) (a .pre .1) in
-    omega (arith, r .0, r .1)
-
-sub-lower : tie.Need-sub-lower Inv-loop μ-loop
-sub-lower c = omega arith
-
-sub-lower-2 : tie.Need-sub-lower-2 Inv-loop μ-loop
-sub-lower-2 c = omega arith
-
-mul-lower : tie.Need-mul-lower Inv-loop μ-loop
-mul-lower c =
-    let a = c in
-    let r = two-rooms _ _ _ (a .pre .0) (a .pre .1) in
-    omega (arith, r .0, r .1)
-
-mul-lower-2 : tie.Need-mul-lower-2 Inv-loop μ-loop
-mul-lower-2 c =
-    let a = c in
-    let r = two-rooms _ _ _ (a .pre .0) (a .pre .1) in
-    omega (arith, r .0, r .1)
+start-of-requires-2 : tie.Need-start-of-requires-2 Inv-loop μ-loop
+start-of-requires-2 c κs = let p = c .before .before .before .before .pre in lower-stands _ _ _ (p .0) (p .1)
 
 loop-holds : tie.Need-loop-holds Inv-loop μ-loop
-loop-holds c = (omega arith, copy-start _ _ _ (c .pre .0) (c .pre .1))
+loop-holds c =
+    let u = c .before .before in
+    let p = u .before .before .before .pre in
+    (omega arith, places _ _ _ (p .0) (p .1) (u .start-of .ensures) (c .start-of2 .ensures), refl, copy-start _ _ _ (p .0) (p .1))
 
 mul-loop : tie.Need-mul-loop Inv-loop μ-loop
-mul-loop c =
-    let a = c .before in
-    let r = two-rooms _ _ _ (a .pre .0) (a .pre .1) in
-    omega (arith, r .0, r .1)
+mul-loop c = omega arith
 
 add-levels : tie.Need-add-levels Inv-loop μ-loop
-add-levels c =
-    let l = c .before in
-    let a = l .before in
-    let r = two-rooms _ _ _ (a .pre .0) (a .pre .1) in
-    omega (arith, r .0, r .1, copy-size _ _ _ (a .pre .0) (a .pre .1) _ _ (l .loop .inv .1) (l .loop .inv .0))
+add-levels c = omega arith
 
 mul-levels : tie.Need-mul-levels Inv-loop μ-loop
-mul-levels c =
-    let l = c .before in
-    let a = l .before in
-    let r = two-rooms _ _ _ (a .pre .0) (a .pre .1) in
-    omega (arith, r .0, r .1, copy-size _ _ _ (a .pre .0) (a .pre .1) _ _ (l .loop .inv .1) (l .loop .inv .0))
+mul-levels c = omega arith
 
 slice-read-levels : tie.Need-slice-read-levels Inv-loop μ-loop
-slice-read-levels c =
-    let l = c .before .before in
-    let a = l .before in
-    let r = two-rooms _ _ _ (a .pre .0) (a .pre .1) in
-    omega (arith, r .0, r .1, copy-size _ _ _ (a .pre .0) (a .pre .1) _ _ (l .loop .inv .1) (l .loop .inv .0))
+slice-read-levels c = omega arith
 
 add-levels-2 : tie.Need-add-levels-2 Inv-loop μ-loop
-add-levels-2 c =
-    let l = c .before .before in
-    let a = l .before in
-    let r = two-rooms _ _ _ (a .pre .0) (a .pre .1) in
-    omega (arith, r .0, r .1, copy-size _ _ _ (a .pre .0) (a .pre .1) _ _ (l .loop .inv .1) (l .loop .inv .0))
+add-levels-2 c = omega arith
 
 mul-levels-2 : tie.Need-mul-levels-2 Inv-loop μ-loop
-mul-levels-2 c =
-    let l = c .before .before in
-    let a = l .before in
-    let r = two-rooms _ _ _ (a .pre .0) (a .pre .1) in
-    omega (arith, r .0, r .1, copy-size _ _ _ (a .pre .0) (a .pre .1) _ _ (l .loop .inv .1) (l .loop .inv .0))
+mul-levels-2 c = omega arith
 
 slice-write-levels : tie.Need-slice-write-levels Inv-loop μ-loop
-slice-write-levels c =
-    let l = c .before .before in
-    let a = l .before in
-    let r = two-rooms _ _ _ (a .pre .0) (a .pre .1) in
-    omega (arith, r .0, r .1, copy-size _ _ _ (a .pre .0) (a .pre .1) _ _ (l .loop .inv .1) (l .loop .inv .0))
+slice-write-levels c = omega arith
 
 add-p : tie.Need-add-p Inv-loop μ-loop
-add-p c =
-    let l = c .before .before in
-    let a = l .before in
-    let r = two-rooms _ _ _ (a .pre .0) (a .pre .1) in
-    omega (arith, r .0, r .1, copy-size _ _ _ (a .pre .0) (a .pre .1) _ _ (l .loop .inv .1) (l .loop .inv .0))
+add-p c = omega arith
 
 loop-less : tie.Need-loop-less Inv-loop μ-loop
 loop-less c = omega arith
@@ -114,13 +63,18 @@ loop-again : tie.Need-loop-again Inv-loop μ-loop
 loop-again c =
     let t = c .before in
     let l = t .before in
-    (omega arith, copy-more _ _ _ (l .before .pre .0) (l .before .pre .1) _ _ (l .loop .inv .1) (t .loop-test .taken))
+    let i = l .loop .inv in
+    let p = l .before .before .before .before .before .before .pre in
+    (omega arith, i .1, simp length-set (i .2), copy-more _ _ _ (p .0) (p .1) _ _ (i .3) (i .1) (t .loop-test .taken))
 
 same-length : tie.Need-same-length Inv-loop μ-loop
-same-length c = let l = c .before in copy-size _ _ _ (l .before .pre .0) (l .before .pre .1) _ _ (l .loop .inv .1) (l .loop .inv .0)
+same-length c = c .before .loop .inv .2
 
 returns : tie.Need-returns Inv-loop μ-loop
-returns c = let l = c .before in copy-done _ _ _ (l .before .pre .0) (l .before .pre .1) _ _ (l .loop .inv .1) (l .loop .inv .0) (c .loop-test .left)
+returns c =
+    let l = c .before in
+    let p = l .before .before .before .before .before .before .pre in
+    copy-done _ _ _ (p .0) (p .1) _ _ (l .loop .inv .3) (l .loop .inv .0) (c .loop-test .left)
 
 pub copy-below-spec : {M : Type 1} → statement M
 copy-below-spec =
@@ -128,13 +82,9 @@ copy-below-spec =
     (tie.spec
     Inv-loop
     μ-loop
-    sub-upper
-    mul-upper
-    mul-upper-2
-    sub-lower
-    sub-lower-2
-    mul-lower
-    mul-lower-2
+    start-of-requires
+    sub-start-of
+    start-of-requires-2
     loop-holds
     mul-loop
     add-levels
