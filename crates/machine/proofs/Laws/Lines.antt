@@ -1,4 +1,4 @@
--- The machine's run is the scan of its lines: what the good lines print, and then 18 at the first bad frame, or what the end asks for.
+-- What a machine prints for the bytes behind those of the line in hand is the scan of the lines from there on: what the good lines print, and then 18 at the first bad frame, or what the end asks for.
 use Prim.Native.Nat.{ℕ, suc, _≤_, _<_, min}
 use mathlib.Core.Path.{_≡_, refl, sym, ap, _∙_}
 use mathlib.Core.Logic.{_⊎_, inl, inr, ⊎-elim}
@@ -9,14 +9,14 @@ use native.Mathlib.Omega.{arith}
 use borrow.Author.Tests.{le-leb, lt-leb, ltb-true, ltb-false}
 use lib.Dec.{eqb, ltb}
 use lib.ListN.{length, length-append}
-use Rattle.rules.specs.Scanner.{scanFrom, scan}
+use Rattle.rules.specs.Scanner.{scanFrom}
 use Rattle.rules.proofs.Laws.Tests.{either}
 use Rattle.machine.specs.declared.Frame.{Frame}
 use Rattle.machine.specs.declared.Frame.the-variants.{Sizes, Edge, Query, Faulty}
 use Rattle.machine.specs.Frames.{frameOf}
 use Rattle.machine.specs.Texts.{lineFeed}
-use Rattle.machine.specs.Machine.{mostDigits, Stage, opening, gathering, answering, stopped, isStopped, Turn, silent, stops, onSizes, onEdge, onQuery, onFrame, badFrame, onLine, Machine, beginning, nextLine, Fed, turned, endLine, keep, byte, after, feed, lastBy, lastLine, ended, finish, run}
-use Rattle.machine.specs.Lines.{lastOf, linesFrom, linesOf, fits, wellFramed, lineTurn, lineStep, lineEnd, program, spoken, closing}
+use Rattle.machine.specs.Machine.{mostDigits, Stage, opening, gathering, answering, stopped, isStopped, Turn, silent, stops, onSizes, onEdge, onQuery, onFrame, badFrame, onLine, Machine, nextLine, Fed, turned, endLine, keep, byte, after, feed, lastBy, lastLine, ended, finish}
+use Rattle.machine.specs.Lines.{lastOf, linesFrom, fits, wellFramed, lineTurn, lineStep, lineEnd, program, spoken, closing}
 
 -- a frame that comes where it may not is a bad frame, and one that comes where it may does not ask what a bad frame is
 unfit : (bad : Turn) (line : List ℕ) (s : Stage) (f : Frame) → isStopped s ≡ false → fits s f ≡ false → onFrame bad line s f ≡ bad
@@ -59,7 +59,7 @@ stopped-is (answering items labels table entries) e = let z : _≡_ {A = ℕ} 0 
 stopped-is stopped e = refl
 
 -- what is printed for lines from a stage and a line number on
-printed : Stage → ℕ → List (List ℕ) → List ℕ
+unfoldable pub printed : Stage → ℕ → List (List ℕ) → List ℕ
 printed s k lines = spoken s lines ++ closing (scanFrom program s k lines)
 
 module _ (s : Stage) (k : ℕ) (line : List ℕ) (lines : List (List ℕ)) (on : isStopped s ≡ false) where
@@ -141,7 +141,7 @@ module _ (s : Stage) (n k : ℕ) (part : List ℕ) (lines : List (List ℕ)) (ne
             ∙ ap (λ (z : ℕ). badFrame z .text) (number-next n k number)
 
 -- what is printed from a machine on, to the end of the input
-rest : Machine → List ℕ → List ℕ
+unfoldable pub rest : Machine → List ℕ → List ℕ
 rest m bytes = let f = feed m bytes in f .text ++ finish (f .machine)
 
 rest-byte : (m : Machine) (b : ℕ) (bytes : List ℕ) → rest m (b ∷ bytes) ≡ byte m b .text ++ rest (byte m b .machine) bytes
@@ -190,7 +190,7 @@ finish-printed s n k (b ∷ part) on short number =
     (λ t e. sym (printed-end (record { stage = t; lines = nextLine n; part = [] }) t (suc k) (number-more n k number))))
 
 -- the bytes behind those of the line in hand
-rest-printed : (bytes : List ℕ) (s : Stage) (n k : ℕ) (part : List ℕ) → isStopped s ≡ false → length part ≤ 512 → n ≡ min k 4294967295
+pub rest-printed : (bytes : List ℕ) (s : Stage) (n k : ℕ) (part : List ℕ) → isStopped s ≡ false → length part ≤ 512 → n ≡ min k 4294967295
     → rest (record { stage = s; lines = n; part = part }) bytes ≡ printed s k (linesFrom part bytes)
 unfolding byte linesFrom keep turned
 rest-printed [] s n k part on short number = unfold rest feed in finish-printed s n k part on short number
@@ -216,8 +216,3 @@ rest-printed (b ∷ bytes) s n k part on short number =
         ∙ append-nil (badFrame (nextLine n) .text)
         ∙ ap (λ (z : ℕ). badFrame z .text) (number-next n k number)
         ∙ sym (long-bad s k (part ++ (b ∷ [])) bytes on (rw length-append (omega (arith, ltb-false (length part) mostDigits l)))))
-
--- the whole run
-pub run-printed : (input : List ℕ) → run input ≡ spoken opening (linesOf input) ++ closing (scan program (linesOf input))
-unfolding run rest printed beginning scan program linesOf
-run-printed input = rest-printed input opening 0 0 [] (unfold isStopped in refl) (omega arith) (omega arith)

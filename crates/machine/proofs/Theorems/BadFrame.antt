@@ -2,18 +2,20 @@
 use Prim.Native.Nat.{ℕ}
 use mathlib.Core.Path.{_≡_, refl, ap, _∙_}
 use mathlib.Core.Logic.{_⊎_, inl, inr}
-use mathlib.Core.List.{List, _++_}
+use mathlib.Core.List.{List, [], _++_}
+use native.Mathlib.Omega.{arith}
 use Rattle.rules.specs.Scanner.{Scanned, says, faultAt, scan, FirstFault}
 use Rattle.rules.proofs.Laws.Scanner.{scan-sound, scan-complete, one-value, scan-first, first-scan, fault-one}
-use Rattle.machine.specs.Machine.{Stage, opening, beginning, nextLine, badFrame, ended, run}
+use Rattle.machine.specs.Machine.{Stage, opening, isStopped, beginning, nextLine, badFrame, ended, run}
 use Rattle.machine.specs.Lines.{linesOf, program, spoken, closing}
 use Rattle.machine.specs.Form.{Input}
-use Rattle.machine.proofs.Laws.Lines.{run-printed}
+use Rattle.machine.proofs.Laws.Lines.{printed, rest, rest-printed}
 use Rattle.machine.proofs.Laws.Form.{scans-inputs}
 
 -- the machine's run over bytes is the scan of the lines
 pub run-scans : (input : List ℕ) → run input ≡ spoken opening (linesOf input) ++ closing (scan program (linesOf input))
-run-scans = run-printed
+unfolding run rest printed beginning scan program linesOf
+run-scans input = rest-printed input opening 0 0 [] (unfold isStopped in refl) (omega arith) (omega arith)
 
 -- lines of the form: what they print, and what the end of input asks for
 pub well-formed : (input : List ℕ) (s : Stage) → Input (linesOf input) s → run input ≡ spoken opening (linesOf input) ++ ended beginning s
