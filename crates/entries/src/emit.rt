@@ -146,38 +146,7 @@ fn put_places(
     done
 }
 
-// The entries of row v of the relation that bit l of the block at `from` holds. Sixteen places without that bit are passed over at once.
-fn put_row(
-    table: &[u32],
-    n: usize,
-    v: usize,
-    code: u32,
-    from: usize,
-    l: usize,
-    area: &[u8],
-    stored: &[u32],
-    out: &mut [u32],
-    past: Progress,
-) -> Progress
-    requires { ⌜ (v < n) × (Emitting (now table) n l from (past .count) n (now area)) ⌝ }
-    ensures { λ r. ⌜ (r .count ≤ past .count + n) × ((J : ℕ → ℕ → Bool) → Slot n from l (now (area .entry)) J → Firsts n (now (table .entry)) (now (area .entry)) → Went (past .count) (past .met) (r .count) (r .met) (entriesRow n (now (table .entry)) J code v n) (now (stored .entry)) (now (out .entry)) (now (out .exit))) ⌝ }
-{
-    let row = v * n;
-    let mut done = past;
-    let mut u: usize = 0;
-    while u < n {
-        if lacks(area, from + (row + u), l, u, n) {
-            u += 16;
-            continue;
-        }
-        let end = end_of(u, n);
-        done = put_places(table, n, v, u, end, code, from, l, area, stored, out, done);
-        u = end;
-    }
-    done
-}
-
-// The entries of row v of the relation that bit l of the block at `from` holds. They are only counted where there is nothing to write to and nothing to compare with.
+// The entries of row v of the relation that bit l of the block at `from` holds. They are only counted where there is nothing to write to and nothing to compare with. Else sixteen places without that bit are passed over at once.
 fn emit_row(
     table: &[u32],
     n: usize,
@@ -193,15 +162,26 @@ fn emit_row(
     requires { ⌜ (v < n) × (Emitting (now table) n l from (past .count) n (now area)) ⌝ }
     ensures { λ r. ⌜ (r .count ≤ past .count + n) × ((J : ℕ → ℕ → Bool) → Slot n from l (now (area .entry)) J → Firsts n (now (table .entry)) (now (area .entry)) → Went (past .count) (past .met) (r .count) (r .met) (entriesRow n (now (table .entry)) J code v n) (now (stored .entry)) (now (out .entry)) (now (out .exit))) ⌝ }
 {
-    if stored.len() + out.len() != 0 {
-        return put_row(table, n, v, code, from, l, area, stored, out, past);
-    }
     let row = v * n;
-    let some = count_row(area, from + row, 8 * (n * n) + row, l, n);
-    Progress {
-        count: past.count + some,
-        met: past.met,
+    if stored.len() + out.len() == 0 {
+        let some = count_row(area, from + row, 8 * (n * n) + row, l, n);
+        return Progress {
+            count: past.count + some,
+            met: past.met,
+        };
     }
+    let mut done = past;
+    let mut u: usize = 0;
+    while u < n {
+        if lacks(area, from + (row + u), l, u, n) {
+            u += 16;
+            continue;
+        }
+        let end = end_of(u, n);
+        done = put_places(table, n, v, u, end, code, from, l, area, stored, out, done);
+        u = end;
+    }
+    done
 }
 
 // The entries of the relation that bit l of the block at `from` holds. Rows without that bit are passed over.
