@@ -6,4 +6,3 @@ pub mod Difference
 pub mod Matching
 pub mod Places
 pub mod Found
-pub mod Written
