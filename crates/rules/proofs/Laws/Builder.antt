@@ -1,9 +1,9 @@
--- The builder's tables are accepted, its classes are those of path-bisimulation, and no accepted classes are coarser.
+-- The builder's tables are accepted, and its classes are those of path-bisimulation.
 use Prim.Native.Nat.{ℕ, zero, suc, _+_, _*_, _/_, _%_, _≤_, _<_}
 use mathlib.Core.Path.{_≡_, sym, _∙_}
 use mathlib.Core.Logic.{_↔_}
 use mathlib.Core.List.{List}
-use mathlib.Core.Bool.{Bool, true}
+use mathlib.Core.Bool.{true}
 use native.Mathlib.Omega.{arith}
 use lib.ListN.{getD}
 use Rattle.rules.specs.Graph.{Graph, connected}
@@ -19,7 +19,7 @@ use Rattle.rules.proofs.Laws.Bisim.{bisim-ends, bisim-steps, bisim-sym,
 use Rattle.rules.proofs.Laws.Levels.{level-is, level-written}
 use Rattle.rules.proofs.Laws.AllOrNone.{accepted-bisim}
 use Rattle.rules.proofs.Laws.Numbering
-use Rattle.rules.proofs.Laws.Numbered.{Equivalence, numbered-accepted}
+use Rattle.rules.proofs.Laws.Numbered.{number-here, numbered-right}
 
 -- agreement at positions is an equivalence relation
 module _ (ρ : Rule) (g : Graph) (i : ℕ) (T : ℕ → List ℕ) where
@@ -54,22 +54,16 @@ module _ (ρ : Rule) (g : Graph) (i : ℕ) (T : ℕ → List ℕ) where
   pub class-related : (p q : ℕ) → connectedAt g i p ≡ true → connectedAt g i q ≡ true → agreeAt ρ g i T p q ≡ true → number p ≡ number q
   class-related = Numbering.related-same (connectedAt g i) (agreeAt ρ g i T) (at-refl ρ g i T) (at-sym ρ g i T) (at-trans ρ g i T)
 
--- a level numbered by any equivalence that gives agreement is accepted
-pub numbered-level : (ρ : Rule) (g : Graph) (i : ℕ) (T : ℕ → List ℕ) (same : ℕ → ℕ → Bool) → Equivalence same
-    → ((p q : ℕ) → p < g .items * g .items → q < g .items * g .items → connectedAt g i p ≡ true → connectedAt g i q ≡ true
-    → same p q ≡ true → agreeAt ρ g i T p q ≡ true)
-    → T i ≡ numbering (connectedAt g i) same (g .items * g .items) → LevelAccepted ρ g i T
-unfolding LevelAccepted levelOk
-numbered-level ρ g i T same eqv gives own p h =
-    rw own (numbered-accepted (connectedAt g i) same eqv (agreeAt ρ g i T) (g .items * g .items) gives p h)
-
--- and so by agreement itself
+-- a level numbered by agreement is accepted
 pub class-ok : (ρ : Rule) (g : Graph) (i : ℕ) (T : ℕ → List ℕ)
     → T i ≡ numbering (connectedAt g i) (agreeAt ρ g i T) (g .items * g .items) → LevelAccepted ρ g i T
-class-ok ρ g i T =
-    numbered-level ρ g i T (agreeAt ρ g i T)
-    (record { reflexive = at-refl ρ g i T; symmetric = at-sym ρ g i T; transitive = at-trans ρ g i T })
-    (λ p q hp hq cp cq e. e)
+unfolding LevelAccepted levelOk
+class-ok ρ g i T own p h =
+    rw own
+    (number-here (connectedAt g i) (agreeAt ρ g i T) (g .items * g .items) (numbering (connectedAt g i) (agreeAt ρ g i T) (g .items * g .items)) p
+    (numbered-right (connectedAt g i) (agreeAt ρ g i T)
+    (record { reflexive = at-refl ρ g i T; symmetric = at-sym ρ g i T; transitive = at-trans ρ g i T }) (agreeAt ρ g i T) (g .items * g .items)
+    (λ p q hp hq cp cq e. e) p h))
 
 -- acceptance looks at the levels 0 to k only
 pub accepted-same : (ρ : Rule) (g : Graph) (k : ℕ) (S T : ℕ → List ℕ) → ((i : ℕ) → i ≤ k → S i ≡ T i) → LevelsAccepted ρ g k S → LevelsAccepted ρ g k T
@@ -157,15 +151,3 @@ module _ (ρ : Rule) (g : Graph) where
         λ e. accepted-bisim ρ g i T (builder-accepted i) i o (omega arith) v u x y hv hu hx hy e (connected-number ρ g i T (level-ok i o) v u hv hu ca),
         λ d. agree-same i v u x y o hv hu hx hy ca (walk-conn g x b) (bisim-agree i v u x y hv hu hx hy d),
       )
-
-  -- accepted classes are the builder's or finer
-  pub accepted-finer : (k : ℕ) (T : ℕ → List ℕ) → LevelsAccepted ρ g k T → (i : ℕ) → 0 < i → i ≤ k
-      → (v u x y : ℕ) → v < g .items → u < g .items → x < g .items → y < g .items
-      → numberAt (g .items) (T i) v u ≡ numberAt (g .items) (T i) x y → 0 < numberAt (g .items) (T i) v u
-      → numberAt (g .items) (builtLevel ρ g i) v u ≡ numberAt (g .items) (builtLevel ρ g i) x y
-  accepted-finer k T ok i o b v u x y hv hu hx hy e l =
-      let right = accepted-at ρ g k T ok i o b in
-      agree-same i v u x y o hv hu hx hy
-      (number-connected ρ g i T right v u hv hu l)
-      (number-connected ρ g i T right x y hx hy (rw e at l))
-      (bisim-agree i v u x y hv hu hx hy (accepted-bisim ρ g k T ok i o b v u x y hv hu hx hy e l))

@@ -1,7 +1,7 @@
 -- Tables whose numbers are each at most one above the largest before: every number from 1 to the largest occurs, and first positions ascend with their numbers.
 use Prim.Native.Nat.{ℕ, zero, suc, _≤_, _<_, max}
 use mathlib.Core.Path.{_≡_, refl, sym, ap, _∙_, subst}
-use mathlib.Core.Logic.{_⊎_, inl, inr, ⊎-elim}
+use mathlib.Core.Logic.{⊎-elim}
 use mathlib.Core.List.{List, [], _∷_, _++_}
 use mathlib.Core.Bool.{true, false, _&&_}
 use native.Mathlib.Nat.{eq-or-lt-of-le}
@@ -36,12 +36,9 @@ module _ (t : List ℕ) (next : (p : ℕ) → p < length t → getD t p 0 ≤ su
       none t c pos le = unfold maxOf in omega arith
   occurs-before (suc m) h c pos le =
       ⊎-elim
-      (λ (l : c ≤ maxOf (take m t)). let r = occurs-before m (omega arith) c pos l in (r .0, omega (arith, r .1), r .2))
       (λ (l : maxOf (take m t) < c). (m, omega arith, omega (arith, max-more m h, next m h)))
-      (cases c (maxOf (take m t)))
-    where
-      cases : (a b : ℕ) → (a ≤ b) ⊎ (b < a)
-      cases a b = ⊎-elim (λ l. inr l) (λ g. inl g) (order b a)
+      (λ (l : c ≤ maxOf (take m t)). let r = occurs-before m (omega arith) c pos l in (r .0, omega (arith, r .1), r .2))
+      (order (maxOf (take m t)) c)
 
   pub occurs : (c : ℕ) → 0 < c → c ≤ maxOf t → (p : ℕ) × (p < length t) × (getD t p 0 ≡ c)
   occurs c pos le = occurs-before (length t) (omega arith) c pos (rw (take-all (length t) t (omega arith)) le)

@@ -1,4 +1,4 @@
--- Zeros, classes and "at most one above the largest before" fix a table.
+-- Zeros, classes and "at most one above the largest before" fix a table: two tables that share the first two and have the third are the same up to each position.
 use Prim.Native.Nat.{ℕ, zero, suc, _≤_, _<_}
 use mathlib.Core.Path.{_≡_, refl, sym, ap, ap₂, _∙_}
 use mathlib.Core.Logic.{_↔_, ⊎-elim}
@@ -6,7 +6,7 @@ use mathlib.Core.List.{List, [], _∷_, _++_}
 use native.Mathlib.Nat.{eq-zero-or-pos}
 use native.Mathlib.Omega.{arith}
 use lib.ListN.{length, getD, take}
-use lib.Seq.{take-suc, take-all, getD-take}
+use lib.Seq.{take-suc, getD-take}
 use Rattle.rules.specs.Levels.{maxOf}
 use Rattle.rules.proofs.Laws.Tests.{order}
 use Rattle.rules.proofs.Laws.Dense.{occurs-before}
@@ -55,14 +55,10 @@ module _ (s t : List ℕ) (a : Dense s) (b : Dense t) (like : SameClasses s t) w
       (eq-zero-or-pos (getD t m 0)))
       (eq-zero-or-pos (getD s m 0))
 
-  front-same : (m : ℕ) → m ≤ length s → take m s ≡ take m t
+  pub front-same : (m : ℕ) → m ≤ length s → take m s ≡ take m t
   front-same zero h = refl
   front-same (suc m) h =
       let e = front-same m (omega arith) in
       take-suc s m 0 h
       ∙ ap₂ (λ (l : List ℕ) (x : ℕ). l ++ (x ∷ [])) e (next-same m h e)
       ∙ sym (take-suc t m 0 (omega (arith, like .size)))
-
-  pub table-fixed : s ≡ t
-  table-fixed =
-      sym (take-all (length s) s (omega arith)) ∙ front-same (length s) (omega arith) ∙ take-all (length s) t (omega (arith, like .size))

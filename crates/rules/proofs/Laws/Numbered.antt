@@ -84,6 +84,3 @@ module _ (isIn : ℕ → Bool) (same : ℕ → ℕ → Bool) (eqv : Equivalence 
           next = rw (e, numbering-take isIn same n p (omega arith)) (number-next isIn same p);
           agrees = λ l. rw e (numbered-first p h (rw e at l));
         }
-
-    pub numbered-accepted : (p : ℕ) → p < n → numberOk isIn alike n (numbering isIn same n) p ≡ true
-    numbered-accepted p h = number-here isIn alike n (numbering isIn same n) p (numbered-right p h)

@@ -1,4 +1,4 @@
--- A token list asks the query q exactly if it is q written operands first, of at most 64 tokens and never with more than 8 operands waiting.
+-- How reading goes on behind the tokens of an atom, and behind those of two queries and a sign; and the other way: a token list that asks a query is that query written operands first.
 use Prim.Native.Nat.{ℕ, suc, _+_, _*_, _≤_, _<_, max}
 use mathlib.Core.Path.{_≡_, refl, sym, ap, _∙_}
 use mathlib.Core.Logic.{⊎-elim}
@@ -65,11 +65,11 @@ module _ (l : ℕ) (few : l ≤ 8) where
   read-unknown s p h rest at ws =
       rw (ne-eqb s 0 (λ q. omega arith), lt-leb s (2 * l) p, ne-eqb s 32 (λ q. omega arith), ne-eqb s 33 (λ q. omega arith))
 
-  read-join : (p q : Query) (rest : List ℕ) (at : ℕ) (ws : List Query) → readFrom l (32 ∷ rest) at (q ∷ (p ∷ ws)) ≡ readFrom l rest (suc at) (join p q ∷ ws)
+  pub read-join : (p q : Query) (rest : List ℕ) (at : ℕ) (ws : List Query) → readFrom l (32 ∷ rest) at (q ∷ (p ∷ ws)) ≡ readFrom l rest (suc at) (join p q ∷ ws)
   unfolding readFrom act fold2
   read-join p q rest at ws = rw token-join
 
-  read-both : (p q : Query) (rest : List ℕ) (at : ℕ) (ws : List Query) → readFrom l (33 ∷ rest) at (q ∷ (p ∷ ws)) ≡ readFrom l rest (suc at) (both p q ∷ ws)
+  pub read-both : (p q : Query) (rest : List ℕ) (at : ℕ) (ws : List Query) → readFrom l (33 ∷ rest) at (q ∷ (p ∷ ws)) ≡ readFrom l rest (suc at) (both p q ∷ ws)
   unfolding readFrom act fold2
   read-both p q rest at ws = rw token-both
 
@@ -81,7 +81,7 @@ module _ (l : ℕ) (few : l ≤ 8) where
       (λ (h : 8 ≤ length ws). ninth at (omega arith) (omega arith) (omega arith) (read-ninth a f rest at ws h))
       (order (length ws) 8)
 
-  back-atom : (a : Atom) → AtomFormed 8 a → (rest : List ℕ) (at : ℕ) (ws : List Query) → ReadBack l (atom a) rest at ws (readFrom l (spell a ∷ rest) at ws)
+  pub back-atom : (a : Atom) → AtomFormed 8 a → (rest : List ℕ) (at : ℕ) (ws : List Query) → ReadBack l (atom a) rest at ws (readFrom l (spell a ∷ rest) at ws)
   unfolding spell tokens WellFormed AtomFormed
   back-atom identity w rest at ws = back-known identity tt rest at ws
   back-atom (step s) w rest at ws =
@@ -117,7 +117,7 @@ module _ (l : ℕ) (few : l ≤ 8) where
       back-first rest at ws again x (unknown n v a b e) = unknown n (λ f. v (parts f .0)) a (omega (arith, long)) e
       back-first rest at ws again x (ninth n k a b e) = ninth n (omega (arith, waits)) a (omega (arith, long)) e
 
-      back-pair : (rest : List ℕ) (at : ℕ) (ws : List Query)
+      pub back-pair : (rest : List ℕ) (at : ℕ) (ws : List Query)
           → ((rest : List ℕ) (at : ℕ) (ws : List Query) → ReadBack l p rest at ws (readFrom l (tokens p ++ rest) at ws))
           → ((rest : List ℕ) (at : ℕ) (ws : List Query) → ReadBack l q rest at ws (readFrom l (tokens q ++ rest) at ws))
           → ReadBack l r rest at ws (readFrom l (tokens r ++ rest) at ws)
@@ -125,39 +125,13 @@ module _ (l : ℕ) (few : l ≤ 8) where
           let e : tokens r ++ rest ≡ tokens p ++ (tokens q ++ (sign ∷ rest)) = rw spelled (simp append-assoc) in
           rw e (back-first rest at ws second _ (first (tokens q ++ (sign ∷ rest)) at ws))
 
-  -- a query over eight labels, read from its tokens over l of them
-  pub read-back : (q : Query) → WellFormed 8 q → (rest : List ℕ) (at : ℕ) (ws : List Query) → ReadBack l q rest at ws (readFrom l (tokens q ++ rest) at ws)
-  unfolding tokens waiting WellFormed
-  read-back (atom a) w rest at ws = back-atom a w rest at ws
-  read-back (join p q) w rest at ws =
-      back-pair p q (join p q) 32 refl refl (λ a b. (a, b)) (λ f. f) (read-join p q) rest at ws (read-back p (w .0)) (read-back q (w .1))
-  read-back (both p q) w rest at ws =
-      back-pair p q (both p q) 33 refl refl (λ a b. (a, b)) (λ f. f) (read-both p q) rest at ws (read-back p (w .0)) (read-back q (w .1))
-
-  wider : (q : Query) → WellFormed l q → WellFormed 8 q
+  -- a query over l labels is one over eight
+  pub wider : (q : Query) → WellFormed l q → WellFormed 8 q
   unfolding WellFormed AtomFormed
   wider (atom identity) w = tt
   wider (atom (step s)) w = (w .0, omega (arith, w .1))
   wider (join p q) w = (wider p (w .0), wider q (w .1))
   wider (both p q) w = (wider p (w .0), wider q (w .1))
-
-  -- the whole list
-  pub back-whole : (q : Query) → WellFormed 8 q → length (tokens q) ≤ 64 → ReadBack l q [] 0 [] (readTokens l (tokens q))
-  unfolding readTokens
-  back-whole q w few′ =
-      rw (lt-ltb 0 (length (tokens q)) (tokens-some q), le-leb (length (tokens q)) 64 few′)
-      (ap-back (append-nil (tokens q)) (read-back q w [] 0 []))
-    where
-      ap-back : {xs ys : List ℕ} → xs ≡ ys → ReadBack l q [] 0 [] (readFrom l xs 0 []) → ReadBack l q [] 0 [] (readFrom l ys 0 [])
-      ap-back e r = rw e at r
-
-  pub reads : (q : Query) → WellFormed l q → waiting q ≤ 8 → length (tokens q) ≤ 64 → readTokens l (tokens q) ≡ asks q
-  reads q w h few′ = go (readTokens l (tokens q)) (back-whole q (wider q w) few′)
-    where
-      go : (r : Reading) → ReadBack l q [] 0 [] r → r ≡ asks q
-      go r (goes-on v k e) = e ∙ unfold readFrom end in refl
-      go r (unknown n v a b e) = absurd (v w)
-      go r (ninth n k a b e) = absurd (omega arith)
 
 -- the other way: the tokens of what waits, the latest last
 flat : List Query → List ℕ

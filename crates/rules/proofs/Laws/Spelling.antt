@@ -1,4 +1,4 @@
--- Different queries have different tokens: a reader with no limits gives each query back from its tokens.
+-- A reader with no limits gives each query back from its tokens.
 use Prim.Native.Nat.{ℕ, _≤_}
 use mathlib.Core.Path.{_≡_, refl, sym, ap, _∙_}
 use mathlib.Core.List.{List, [], _∷_, _++_, append-nil, append-assoc}
@@ -21,7 +21,7 @@ behindOne : ℕ → List Query → List Query
 behindOne t ws = cond (eqb t 0) (atom identity ∷ ws) (cond (eqb t 32) (pair join ws) (cond (eqb t 33) (pair both ws) (atom (step t) ∷ ws)))
 
 -- what waits behind a list of tokens
-behind : List ℕ → List Query → List Query
+pub behind : List ℕ → List Query → List Query
 behind [] ws = ws
 behind (t ∷ ts) ws = behind ts (behindOne t ws)
 
@@ -45,12 +45,6 @@ module _ (l : ℕ) (few : l ≤ 8) where
       ∙ ap (λ (z : List ℕ). behind z (p ∷ ws)) (append-assoc (tokens q) (33 ∷ []) rest)
       ∙ back q (w .1) (33 ∷ rest) (p ∷ ws)
 
-  given-back : (q : Query) → WellFormed l q → behind (tokens q) [] ≡ q ∷ []
+  pub given-back : (q : Query) → WellFormed l q → behind (tokens q) [] ≡ q ∷ []
   unfolding behind
   given-back q w = ap (λ (z : List ℕ). behind z []) (sym (append-nil (tokens q))) ∙ back q w [] []
-
-  only : {p q : Query} → p ∷ [] ≡ q ∷ [] → p ≡ q
-  only e = cc
-
-  pub tokens-injective : (p q : Query) → WellFormed l p → WellFormed l q → tokens p ≡ tokens q → p ≡ q
-  tokens-injective p q v w e = only (sym (given-back p v) ∙ ap (λ (z : List ℕ). behind z []) e ∙ given-back q w)

@@ -1,5 +1,5 @@
 -- A list after k stores in a row, and after m rows of n stores.
-use Prim.Native.Nat.{ℕ, zero, suc, _+_, _*_, _-_, _≤_, _<_}
+use Prim.Native.Nat.{ℕ, zero, suc, _+_, _*_, _≤_, _<_}
 use mathlib.Core.Path.{_≡_, refl, sym, ap, _∙_}
 use mathlib.Core.List.{List}
 use native.Mathlib.Nat.{suc-mul, zero-mul, not-suc-le-zero, zero-add, add-zero, add-suc, add-assoc}

@@ -6,7 +6,7 @@ use mathlib.Core.Bool.{Bool, true, false, cond}
 use native.Mathlib.Nat.{mul-le-mul-right}
 use native.Mathlib.Omega.{arith}
 use lib.Dec.{leb}
-use lib.ListN.{length, drop}
+use lib.ListN.{length, take, drop}
 use Rattle.rules.specs.declared.Refusal.{Refusal}
 use Rattle.rules.specs.declared.Refusal.the-variants.{EntryRoom}
 use Rattle.rules.specs.declared.Built.the-variants.{Tables, Refused as NotBuilt}
@@ -53,7 +53,7 @@ module _ (c : BuildCall) (classes pairs entries : ℕ) where
     abbrev top : List ℕ
     top = builtLevel rule g (c .k)
 
-    unrefused : buildRefusal c ≡ good
+    pub unrefused : buildRefusal c ≡ good
     unfolding build
     unrefused = after-good (buildRefusal c) done
 
@@ -87,7 +87,8 @@ module _ (c : BuildCall) (classes pairs entries : ℕ) where
     unfolding buildTables indexFor builtIndex graphOf
     entries-are = ap (λ (e : BuildEnd). e .entries) worked ∙ rw (counts .0)
 
-    level-is-built : (i : ℕ) → i ≤ c .k → builtLevel rule g i ≡ levelOf (c .items) (build c .levels) i
+    -- each level that build leaves is the one that it defines
+    pub level-is-built : (i : ℕ) → i ≤ c .k → builtLevel rule g i ≡ levelOf (c .items) (build c .levels) i
     unfolding front graphOf
     level-is-built i h =
         let ls = builtLevels rule g (c .k) in
@@ -107,6 +108,10 @@ module _ (c : BuildCall) (classes pairs entries : ℕ) where
     entries-length =
         omega (arith, counts .3, rising-even (up-rising g top (sizes-fit (c .items) (c .labels) (links .sizes-good) .labels-fit) (maxOf top) (c .k)))
 
+    -- and so are the entries, cut to their count
+    pub entries-cut : take (2 * entries) (build c .entries) ≡ entriesOf g (c .k) top
+    entries-cut = rw entries-are (front-take (entriesOf g (c .k) top) (c .entries) (2 * entries) entries-length)
+
     conditions : Conditions rule g (handedOver c classes pairs entries)
     unfolding handedOver startsOf entriesOf graphOf
     conditions =
@@ -114,7 +119,7 @@ module _ (c : BuildCall) (classes pairs entries : ℕ) where
           levels = accepted-same rule g (c .k) (builtLevel rule g) (levelOf (c .items) (build c .levels)) level-is-built (builder-accepted rule g (c .k));
           starts = ap startsOf top-is-built ∙ sym (rw starts-are (front-take (startsOf top) (c .starts) (suc classes) (starts-length top (maxOf top) ∙ ap suc (counts .1))));
           order = ap orderOf top-is-built ∙ sym (rw order-are (front-take (orderOf top) (c .order) pairs (counts .2)));
-          entries = ap (entriesOf g (c .k)) top-is-built ∙ sym (rw entries-are (front-take (entriesOf g (c .k) top) (c .entries) (2 * entries) entries-length));
+          entries = ap (entriesOf g (c .k)) top-is-built ∙ sym entries-cut;
         }
 
     past-five : (area : List ℕ) → 9 * (c .items * c .items) ≤ length area

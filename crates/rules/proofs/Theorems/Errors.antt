@@ -1,18 +1,15 @@
 -- Errors that look right: for each line of document 01's list an example that the wrong rule would get wrong, and a finer table that the check must accept.
-use Prim.Native.Nat.{ℕ}
 use mathlib.Core.Path.{_≡_, refl}
-use mathlib.Core.List.{List, [], _∷_, _++_}
-use lib.ListN.{replicate}
+use mathlib.Core.List.{[], _∷_, _++_}
 use Rattle.rules.specs.declared.Refusal.the-variants.{LevelFault}
-use Rattle.rules.specs.declared.Answered.the-variants.{Answers}
-use Rattle.rules.specs.Finite.{anyBelow, allBelow, firstBelow, listBelow, tableBelow}
+use Rattle.rules.specs.Finite.{anyBelow, allBelow, firstBelow, listBelow}
 use Rattle.rules.specs.Graph.{Graph, edgeIs, hasEdge, graphOf, leads, adjacent, connected}
 use Rattle.rules.specs.Rule.{rule}
-use Rattle.rules.specs.Query.{Query, atom, join, identity, step, atomBy, meetsBy, answerBy, answerOf}
+use Rattle.rules.specs.Query.{atom, join, identity, step, atomBy, meetsBy, answerBy, answerOf}
 use Rattle.rules.specs.Levels.{numberAt, sameEnds, sameSteps, isTwin, hasTwin, twins, splitOk, agree, agreeAt, connectedAt, maxOf, firstOf, matches, nextNumber, numbering, levelOf, stack, levelOver, builtLevels}
 use Rattle.rules.specs.Lists.{pairsOf, orderUpTo, startsUpTo, joins, codeFrom, joinsClass, entriesFor, eachUpTo, entriesBehind, entriesUpTo, startsOf, orderOf, entriesOf}
 use Rattle.rules.specs.Stored.{codeAt, classAt, partFrom, partTo, stands, storedStep, storedAnswer, leader, classAnswer}
-use Rattle.rules.specs.Verdict.{Verdict, good, refuse, _orElse_, when}
+use Rattle.rules.specs.Verdict.{good, refuse, _orElse_, when}
 use Rattle.rules.specs.Accept.{numberOk, levelOk, firstFault, levelsRight, difference, sameList, topOf, accepts}
 use Rattle.rules.proofs.Theorems.Examples.{edges, level1, level2, starts, order, entries}
 

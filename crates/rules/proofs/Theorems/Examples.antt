@@ -16,7 +16,7 @@ use Rattle.rules.specs.Levels.{numberAt, sameEnds, sameSteps, isTwin, ha
 use Rattle.rules.specs.Lists.{pairsOf, orderUpTo, startsUpTo, joins, codeFrom, joinsClass, entriesFor, eachUpTo, entriesBehind, entriesUpTo, startsOf, orderOf, entriesOf}
 use Rattle.rules.specs.Verdict.{_orElse_, when, sizes, levelCount, edgeCount, badEdge, firstBad, edgesFit, room, wellRead, queryOf, withinDiameter}
 use Rattle.rules.specs.Accept.{topOf, builtIndex}
-use Rattle.rules.specs.Outcomes.{front, zeroed, BuildCall, BuildEnd, buildRefusal, buildNothing, buildTables, indexFor, buildAfter, build, AnswerEnd, answerAfter, DirectCall, directRefusal, directList, direct, ClassCall, classRefusal, classList, class}
+use Rattle.rules.specs.Outcomes.{front, zeroed, BuildCall, BuildEnd, buildRefusal, buildTables, indexFor, buildAfter, build, AnswerEnd, answerAfter, DirectCall, directRefusal, directList, direct, ClassCall, classRefusal, class}
 
 -- the document's edge table: source, target, label
 abbrev pub edges : List ℕ

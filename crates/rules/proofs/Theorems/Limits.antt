@@ -1,8 +1,7 @@
 -- The limits: for each number of the refusal table the last input that is let through and the first that is refused. Each holds by computation.
-use Prim.Native.Nat.{ℕ}
 use mathlib.Core.Path.{_≡_, refl}
 use mathlib.Core.Bool.{true, false}
-use mathlib.Core.List.{List, [], _∷_}
+use mathlib.Core.List.{[], _∷_}
 use lib.ListN.{replicate}
 use Rattle.rules.specs.declared.Refusal.the-variants.{Sizes, LevelCount, EdgeCount, Edge, Room, Unknown, TooLong, NoClass, ListFault}
 use Rattle.rules.specs.declared.Bounds.the-variants.{Part, Refused as NoPart}

@@ -3,7 +3,6 @@ use Prim.Native.Nat.{ℕ}
 use mathlib.Core.Path.{_≡_, refl}
 use mathlib.Core.List.{List, [], _∷_, _++_}
 use lib.ListN.{replicate}
-use Rattle.rules.specs.declared.Refusal.{Refusal}
 use Rattle.rules.specs.declared.Refusal.the-variants.{Sizes, LevelCount, EdgeCount, Edge, Room, QueryLength, Unknown, FewOperands, OperandsLeft, TooLong, LevelFault, ListFault}
 use Rattle.rules.specs.declared.Built.the-variants.{Refused as NotBuilt}
 use Rattle.rules.specs.declared.Checked.the-variants.{Refused as NotAccepted}
@@ -18,7 +17,7 @@ use Rattle.rules.specs.Levels.{numberAt, sameEnds, sameSteps, isTwin, ha
 use Rattle.rules.specs.Lists.{pairsOf, orderUpTo, startsUpTo, joins, codeFrom, joinsClass, entriesFor, eachUpTo, entriesBehind, entriesUpTo, startsOf, orderOf, entriesOf}
 use Rattle.rules.specs.Verdict.{_orElse_, when, sizes, levelCount, edgeCount, badEdge, firstBad, edgesFit, room, wellRead, queryOf, withinDiameter, fewSymbols, knownSymbols}
 use Rattle.rules.specs.Accept.{numberOk, levelOk, firstFault, levelsRight, difference, sameList, topOf, accepts, builtIndex}
-use Rattle.rules.specs.Outcomes.{front, zeroed, BuildCall, buildRefusal, buildNothing, buildTables, indexFor, buildAfter, build, CheckCall, checkRefusal, checkGraph, told, checkAfter, check, AnswerEnd, answerAfter, DirectCall, directRefusal, directList, direct, StoredCall, storedRefusal, storedList, stored, ClassCall, classRefusal, classList, class, lookupAfter, lookupBounds}
+use Rattle.rules.specs.Outcomes.{front, zeroed, BuildCall, buildRefusal, buildNothing, buildTables, indexFor, buildAfter, build, CheckCall, checkRefusal, checkGraph, told, checkAfter, check, answerAfter, DirectCall, directRefusal, directList, direct, StoredCall, storedRefusal, stored, ClassCall, classRefusal, class, lookupAfter, lookupBounds}
 use Rattle.rules.proofs.Theorems.Examples.{edges, level1, level2, starts, order, entries}
 
 -- direct answers on V items with the given edges, tokens and bytes of area, and no room for an answer
