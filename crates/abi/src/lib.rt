@@ -49,7 +49,7 @@ fn hand_bounds(bounds: Bounds) -> KvResult
             b: narrow(from),
             c: narrow(to),
         },
-        Bounds::Refused(refusal) => hand(rules::report_refusal(refusal)),
+        Bounds::Refused(refusal) => hand(reports::report_refusal(refusal)),
     }
 }
 
@@ -79,7 +79,7 @@ pub extern "C" fn kv_build(
         entries,
         area,
     );
-    hand(rules::report_built(built))
+    hand(reports::report_built(built))
 }
 
 // Check: the level and position, the list and index, or the index, of the first fault.
@@ -108,7 +108,7 @@ pub extern "C" fn kv_check(
         entries,
         area,
     );
-    hand(rules::report_checked(checked))
+    hand(reports::report_checked(checked))
 }
 
 // Direct answer: a is the number of answers written.
@@ -124,7 +124,7 @@ pub extern "C" fn kv_direct(
     ensures { λ r. ⌜ HandsAnswered (direct (directCall items labels (now (edges .entry)) (now (tokens .entry)) (now (answers .entry)) (now (area .entry)))) r (now (answers .exit)) (now (area .exit)) ⌝ }
 {
     let answered = index::direct(items, labels, edges, tokens, answers, area);
-    hand(rules::report_answered(answered))
+    hand(reports::report_answered(answered))
 }
 
 // Stored answer: a is the number of answers written.
@@ -141,7 +141,7 @@ pub extern "C" fn kv_stored(
     ensures { λ r. ⌜ HandsAnswered (stored (storedCall items labels (now (table .entry)) (now (entries .entry)) (now (tokens .entry)) (now (answers .entry)) (now (area .entry)))) r (now (answers .exit)) (now (area .exit)) ⌝ }
 {
     let answered = index::stored(items, labels, table, entries, tokens, answers, area);
-    hand(rules::report_answered(answered))
+    hand(reports::report_answered(answered))
 }
 
 // Class answer: a is the number of class numbers written.
@@ -159,7 +159,7 @@ pub extern "C" fn kv_class(
     ensures { λ r. ⌜ HandsAnswered (class (classCall items labels k (now (table .entry)) (now (entries .entry)) (now (tokens .entry)) (now (answers .entry)) (now (area .entry)))) r (now (answers .exit)) (now (area .exit)) ⌝ }
 {
     let answered = index::class_answer(items, labels, k, table, entries, tokens, answers, area);
-    hand(rules::report_answered(answered))
+    hand(reports::report_answered(answered))
 }
 
 // Pairs of a class: b and c are the bounds of the part in the order list.

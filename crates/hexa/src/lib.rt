@@ -6,8 +6,6 @@ ghost use lib.ListN.{length, getD};
 ghost use lib.Seq.{sets};
 ghost use Rattle.hexa.specs.Digits.{valueOf, pastEnd, digitOf, numberAt, spelling};
 
-pub mod frame; // the reader of one frame, which holds its line
-
 // A number that was read, or none: a byte that is no upper-case digit, or the end of the line.
 pub enum Read {
     Number(u32),

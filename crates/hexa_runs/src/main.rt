@@ -22,8 +22,8 @@ fn write_end(ended: bool) {
 fn echo(line: &[u8]) {
     for i in 0..1024 {
         let at = i * 4;
-        let Read::Number(x) = hexa::frame::field(line, at, 4) else {
-            write_end(hexa::frame::ends(line, at));
+        let Read::Number(x) = reader::field(line, at, 4) else {
+            write_end(reader::ends(line, at));
             return;
         };
         write_number(x);

@@ -24,7 +24,7 @@ fn count_set(area: &[u8]) -> usize {
 }
 
 fn print_run(name: &[u8], answer: Answered, answers: &[u32], area: &[u8]) {
-    let report = rules::report_answered(answer);
+    let report = reports::report_answered(answer);
     io::write_all(1, name);
     io::print_decimal(1, wide(report.number));
     io::write_all(1, b" ");

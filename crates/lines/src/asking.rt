@@ -4,13 +4,13 @@ ghost use Prim.Native.Nat.{_*_, _≤_};
 ghost use lib.ListN.{length, take};
 ghost use Rattle.rules.specs.Levels.{levelOf};
 ghost use Rattle.rules.specs.Outcomes.{stored};
-ghost use Rattle.machine.specs.Frames.{tokensOf};
-ghost use Rattle.machine.specs.Texts.{answerText};
+ghost use Rattle.format.specs.Frames.{tokensOf};
+ghost use Rattle.format.specs.Texts.{answerText};
 ghost use Rattle.machine.specs.Machine.{storedCall};
 ghost use Rattle.lines.specs.Lent.{Written, Ready};
+use format::frames;
+use format::texts;
 use machine::Progress;
-use machine::frames;
-use machine::texts;
 use rules::Answered;
 
 // Where the table of level k ends in the list of all levels.

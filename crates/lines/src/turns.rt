@@ -2,18 +2,18 @@
 ghost use mathlib.Core.List.{List};
 ghost use Prim.Native.Nat.{ℕ, _≤_};
 ghost use lib.ListN.{length, take};
-ghost use Rattle.machine.specs.Frames.{tokensOf};
+ghost use Rattle.format.specs.Frames.{tokensOf};
 ghost use Rattle.machine.specs.Machine.{Turn, builds, asked, badFrame, onQuery, onLine};
 ghost use Rattle.machine.specs.Standing.{stageOf, Fits, Comes};
 ghost use Rattle.lines.specs.Lent.{Rooms, Asks, callOf, Made};
 use crate::asking;
-use machine::Frame;
+use format::Frame;
+use format::frames;
+use format::texts;
 use machine::Moved;
 use machine::Phase;
 use machine::Progress;
-use machine::frames;
 use machine::stages;
-use machine::texts;
 use rules::Built;
 
 // The tables, in the program's room. Starts, order and the working area do not outlive the call: queries read only levels and entries.

@@ -1,4 +1,3 @@
 // The entry list of a level-k table. Narrow contracts; the entries of the index do the refusing.
 
-mod sequences; // the walk over sequences
 pub mod listing; // the entry list, written or compared

@@ -1,11 +1,11 @@
 // The entry list of a table, written or compared with a stored one: one walk over all sequences of 0 to k symbols does both.
 
-use super::sequences::walk;
 use entries::emit::Progress;
 use entries::emit::emit;
 use entries::emit::mark_firsts;
 use relations::marks::identity;
 use relations::marks::mark_edges;
+use sequences::walk;
 ghost use mathlib.Core.Path.{_≡_};
 ghost use mathlib.Core.List.{List};
 ghost use Prim.Native.Nat.{ℕ, _*_, _≤_};
@@ -17,7 +17,7 @@ ghost use Rattle.rules.specs.Lists.{entriesUpTo, entriesOf};
 ghost use Rattle.sorting.specs.Sort.{Contiguous};
 ghost use Rattle.relations.specs.Relations.{Frame, EdgesIn, Marked};
 ghost use Rattle.entries.specs.Entries.{Went, Firsts};
-ghost use Rattle.lists.specs.Walks.{Listing, Listed, Compared};
+ghost use Rattle.lists.specs.Listing.{Listing, Listed, Compared};
 
 // The entries of all sequences of 0 to k symbols, where the steps of the edges and the first positions are marked.
 fn lengths(

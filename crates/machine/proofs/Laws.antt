@@ -1,5 +1,3 @@
-pub mod Frames
-pub mod Texts
 pub mod Stages
 pub mod Steps
 pub mod Lines

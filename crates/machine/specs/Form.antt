@@ -3,8 +3,8 @@ use Prim.Native.Nat.{ℕ, _*_, _≤_, _<_}
 use mathlib.Core.Path.{_≡_}
 use mathlib.Core.List.{List, [], _∷_, _++_}
 use lib.ListN.{length}
-use Rattle.machine.specs.declared.Frame.the-variants.{Sizes, Edge, Query}
-use Rattle.machine.specs.Frames.{frameOf}
+use Rattle.format.specs.declared.Frame.the-variants.{Sizes, Edge, Query}
+use Rattle.format.specs.Frames.{frameOf}
 use Rattle.machine.specs.Machine.{mostItems, mostEdges, mostDigits, Stage, gathering, answering, stopped, builds}
 
 -- 03s to the end; where the tables were refused, the rest is unread

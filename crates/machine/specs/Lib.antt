@@ -1,5 +1,3 @@
-pub mod Frames
-pub mod Texts
 pub mod Machine
 pub mod Lines
 pub mod Form

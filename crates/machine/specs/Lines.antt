@@ -6,10 +6,10 @@ use mathlib.Core.Bool.{Bool, true, false, _&&_, cond}
 use lib.Dec.{eqb, leb, ltb}
 use lib.ListN.{length}
 use Rattle.rules.specs.Scanner.{Scanner, Scanned, says, faultAt}
-use Rattle.machine.specs.declared.Frame.{Frame}
-use Rattle.machine.specs.declared.Frame.the-variants.{Sizes, Edge, Query, Faulty}
-use Rattle.machine.specs.Frames.{frameOf}
-use Rattle.machine.specs.Texts.{lineFeed}
+use Rattle.format.specs.declared.Frame.{Frame}
+use Rattle.format.specs.declared.Frame.the-variants.{Sizes, Edge, Query, Faulty}
+use Rattle.format.specs.Frames.{frameOf}
+use Rattle.format.specs.Texts.{lineFeed}
 use Rattle.machine.specs.Machine.{mostItems, mostEdges, mostDigits, Stage, opening, gathering, answering, stopped, isStopped, Turn, silent, badFrame, onLine, nextLine, beginning, ended}
 
 -- the last line may lack its LF; a final LF opens no line

@@ -10,10 +10,10 @@ use Rattle.rules.specs.declared.Built.{Built}
 use Rattle.rules.specs.declared.Built.the-variants.{Tables, Refused}
 use Rattle.rules.specs.Levels.{levelOf}
 use Rattle.rules.specs.Outcomes.{BuildCall, BuildEnd, build, StoredCall, stored}
-use Rattle.machine.specs.declared.Frame.{Frame}
-use Rattle.machine.specs.declared.Frame.the-variants.{Sizes, Edge, Query, Faulty}
-use Rattle.machine.specs.Frames.{frameOf, tokensOf}
-use Rattle.machine.specs.Texts.{lineFeed, refusalText, builtText, answerText}
+use Rattle.format.specs.declared.Frame.{Frame}
+use Rattle.format.specs.declared.Frame.the-variants.{Sizes, Edge, Query, Faulty}
+use Rattle.format.specs.Frames.{frameOf, tokensOf}
+use Rattle.format.specs.Texts.{lineFeed, refusalText, builtText, answerText}
 
 -- the program's limits: items, edges, digits of a line
 abbrev pub mostItems : ℕ

@@ -1,26 +1,6 @@
-// What `answer` reads and prints: what a line says, the lines of the output, and the steps of the run that need no tables.
+// The run of `answer`, and its steps that need no tables.
 pub mod bytes; // a byte that ends no line, and the state before the first
-pub mod frames; // what a line says
 pub mod stages; // what a line that is no query does
-pub mod texts; // the lines of the output
-
-// The three numbers of a frame 01 or 02, or none.
-pub enum Fields {
-    Three(u32, u32, u32),
-    Wrong,
-}
-
-// What a line says.
-pub enum Frame {
-    // 01: items, labels and k
-    Sizes(u32, u32, u32),
-    // 02: source, target and label
-    Edge(u32, u32, u32),
-    // 03: tokens, which stand in the line
-    Query,
-    // any other line
-    Faulty,
-}
 
 // How far the run has come.
 pub enum Phase {

@@ -9,7 +9,7 @@ ghost use Rattle.machine.specs.Standing.{stageOf, Fits, Comes};
 use crate::Moved;
 use crate::Phase;
 use crate::Progress;
-use crate::texts;
+use format::texts;
 use rules::Refusal;
 
 // At most so many items, and numbers of the edge list.

@@ -1,7 +1,7 @@
 // Pairs of a class and sequence lookup: the bounds of a part of the caller's list or the refusal, and the part itself.
-use query::runs;
 use rules::Bounds;
 use rules::Refusal;
+use stored::runs;
 ghost use mathlib.Core.Path.{_≡_};
 ghost use Prim.Native.Nat.{_≤_};
 ghost use lib.ListN.{length};

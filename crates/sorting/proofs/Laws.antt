@@ -1,8 +1,5 @@
--- Laws of starts and order: the counting sort, and how stored lists are compared with those of a table.
+-- Laws of starts and order: the counting sort, the largest number of a table, and the first difference of two lists.
 pub mod Front
 pub mod Sorting
 pub mod Numbers
 pub mod Difference
-pub mod Matching
-pub mod Places
-pub mod Found

@@ -1,4 +1,3 @@
-// The class lists of a level-k table, starts and order: written, and stored ones compared. Narrow contracts; the entries of the index do the refusing.
+// The class lists of a level-k table, starts and order, written. Narrow contracts; the entries of the index do the refusing.
 
 pub mod sort; // starts and order by counting sort
-pub mod matching; // stored starts and order, compared

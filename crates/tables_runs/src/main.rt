@@ -53,7 +53,7 @@ fn cut(list: &[u32], n: usize) -> &[u32] {
 
 // What build returned, and what stands in all that was lent.
 fn show(built: Built, levels: &[u32], starts: &[u32], order: &[u32], entries: &[u32], area: &[u8]) {
-    write_report(b"built", rules::report_built(built));
+    write_report(b"built", reports::report_built(built));
     write_list(b"levels", levels);
     write_list(b"starts", starts);
     write_list(b"order", order);
@@ -73,7 +73,7 @@ fn judge(
     area: &mut [u8],
 ) {
     let checked = index::check(items, 2, k, edges, levels, starts, order, entries, area);
-    write_report(b"checked", rules::report_checked(checked));
+    write_report(b"checked", reports::report_checked(checked));
     write_area(area);
 }
 

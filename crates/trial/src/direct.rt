@@ -26,7 +26,7 @@ fn call_direct(
         fronts::numbers_mut(answers, asked.answers),
         fronts::bytes_mut(area, asked.area),
     );
-    rules::report_answered(answered)
+    reports::report_answered(answered)
 }
 
 fn print_direct(

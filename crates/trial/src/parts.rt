@@ -23,7 +23,7 @@ fn report_bounds(bounds: Bounds) -> Report {
             b: narrow(from),
             c: narrow(to),
         },
-        Bounds::Refused(r) => rules::report_refusal(r),
+        Bounds::Refused(r) => reports::report_refusal(r),
     }
 }
 

@@ -55,7 +55,7 @@ fn call_stored(
         fronts::numbers_mut(answers, asked.answers),
         fronts::bytes_mut(area, asked.area),
     );
-    rules::report_answered(answered)
+    reports::report_answered(answered)
 }
 
 fn call_class(
@@ -78,7 +78,7 @@ fn call_class(
         fronts::numbers_mut(answers, asked.answers),
         fronts::bytes_mut(area, asked.area),
     );
-    rules::report_answered(answered)
+    reports::report_answered(answered)
 }
 
 fn call(

@@ -31,7 +31,7 @@ fn call_build(
         fronts::numbers_mut(entries, last.entries),
         fronts::bytes_mut(area, last.area),
     );
-    rules::report_built(built)
+    reports::report_built(built)
 }
 
 fn call_check(
@@ -56,7 +56,7 @@ fn call_check(
         fronts::numbers(entries, last.entries),
         fronts::bytes_mut(area, last.area),
     );
-    rules::report_checked(checked)
+    reports::report_checked(checked)
 }
 
 fn call(

@@ -21,12 +21,12 @@ use Rattle.rules.specs.Outcomes.{answerAfter, StoredCall, storedRefusal, stored
 use Rattle.parts.proofs.Laws.Parts.{take-from}
 use Rattle.rules.proofs.Laws.Listing.{table-length, table-at}
 use Rattle.rules.proofs.Laws.Writing.{length-fill, getD-fill-front}
-use Rattle.machine.specs.Frames.{tokenCount, tokenAt, tokensOf}
-use Rattle.machine.proofs.Laws.Frames.{count-small}
-use Rattle.machine.specs.Texts.{answerBy, answerText, listText, refusalText}
+use Rattle.format.specs.Frames.{tokenCount, tokenAt, tokensOf}
+use Rattle.format.proofs.Laws.Frames.{count-small}
+use Rattle.format.specs.Texts.{answerBy, answerText, listText, refusalText}
 use Rattle.machine.specs.Machine.{storedCall}
 use Rattle.lines.specs.Lent.{Written}
-use Rattle.machine.proofs.Laws.Texts.{refusal-length, list-length}
+use Rattle.format.proofs.Laws.Texts.{refusal-length, list-length}
 
 refused-answers : {C : Type 0} {r : Refusal} {m : ℕ} → Refused r ≡ Answers m → C
 refused-answers e = let z : _≡_ {A = ℕ} 0 1 = cc in absurd (omega arith)

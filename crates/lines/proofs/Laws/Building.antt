@@ -26,11 +26,11 @@ use Rattle.rules.proofs.Laws.Levels.{levels-size, level-front}
 use Rattle.machine.specs.declared.Phase.the-variants.{Answering}
 use Rattle.machine.specs.declared.Progress.{Progress}
 use Rattle.machine.specs.declared.Moved.{Moved}
-use Rattle.machine.specs.Texts.{builtText}
+use Rattle.format.specs.Texts.{builtText}
 use Rattle.machine.specs.Machine.{answering, stops, buildCall, builtBy, builds}
 use Rattle.machine.specs.Standing.{stageBy, stageOf, Fits, Comes}
 use Rattle.lines.specs.Lent.{callOf, Made}
-use Rattle.machine.proofs.Laws.Texts.{built-length, refusal-length}
+use Rattle.format.proofs.Laws.Texts.{built-length, refusal-length}
 
 refused-tables : {C : Type 0} {r : Refusal} {a b m : ℕ} → Refused r ≡ Tables a b m → C
 refused-tables e = let z : _≡_ {A = ℕ} 0 1 = cc in absurd (omega arith)

@@ -11,10 +11,10 @@ use lib.Seq.{sets}
 use Rattle.rules.specs.declared.Built.{Built}
 use Rattle.rules.specs.declared.Built.the-variants.{Tables, Refused}
 use Rattle.rules.specs.Outcomes.{BuildEnd, build}
-use Rattle.machine.specs.declared.Frame.{Frame}
-use Rattle.machine.specs.declared.Frame.the-variants.{Sizes, Edge, Query, Faulty}
+use Rattle.format.specs.declared.Frame.{Frame}
+use Rattle.format.specs.declared.Frame.the-variants.{Sizes, Edge, Query, Faulty}
 use Rattle.machine.specs.declared.Taken.{Taken}
-use Rattle.machine.specs.Frames.{frameOf, tokensOf}
+use Rattle.format.specs.Frames.{frameOf, tokensOf}
 use Rattle.machine.specs.Machine.{Stage, opening, gathering, answering, stopped, isStopped, Turn, silent, stops, buildCall, builtBy, builds, onSizes, onEdge, asked, onQuery, onFrame, badFrame, onLine, Machine, nextLine, Fed, turned, endLine, lastBy, lastLine, ended, finish}
 use Rattle.machine.specs.Standing.{stageOf, machineOf, Steps}
 use Rattle.lines.specs.Lent.{Written}

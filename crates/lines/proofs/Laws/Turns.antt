@@ -8,11 +8,11 @@ use lib.Seq.{sets, length-sets}
 use Rattle.rules.specs.Levels.{levelOf}
 use Rattle.rules.specs.Outcomes.{stored}
 use Rattle.machine.specs.declared.Phase.the-variants.{Opening, Gathering, Answering, Stopped}
-use Rattle.machine.specs.declared.Frame.the-variants.{Sizes, Edge, Query, Faulty}
+use Rattle.format.specs.declared.Frame.the-variants.{Sizes, Edge, Query, Faulty}
 use Rattle.machine.specs.declared.Progress.{Progress}
 use Rattle.machine.specs.declared.Moved.{Moved}
-use Rattle.machine.specs.Frames.{frameOf, tokensOf}
-use Rattle.machine.specs.Texts.{answerText}
+use Rattle.format.specs.Frames.{frameOf, tokensOf}
+use Rattle.format.specs.Texts.{answerText}
 use Rattle.machine.specs.Machine.{Stage, Turn, silent, builds, storedCall, answers, asked, badFrame, onSizes, onEdge, onQuery, onFrame, onLine}
 use Rattle.machine.specs.Standing.{stageBy, stageOf, Fits, Comes}
 use Rattle.lines.specs.Lent.{Written}

@@ -10,10 +10,10 @@ use Rattle.rules.specs.Graph.{Graph, graphOf}
 use Rattle.rules.specs.Levels.{maxOf}
 use Rattle.rules.specs.Lists.{joins, codeFrom, entriesBehind, entriesUpTo, entriesOf, eachUpTo}
 use Rattle.sorting.proofs.Laws.Difference.{is-difference}
-use Rattle.lists.proofs.Laws.Leaves.{leaf}
+use Rattle.sequences.proofs.Laws.Leaves.{leaf}
 use Rattle.sorting.specs.Sort.{Contiguous}
 use Rattle.entries.specs.Entries.{Went, entriesRows}
-use Rattle.lists.specs.Walks.{Listed, Compared}
+use Rattle.lists.specs.Listing.{Listed, Compared}
 
 -- the entries of the sequences of 1 to j symbols
 abbrev pub longer : Graph → List ℕ → ℕ → ℕ → List ℕ

@@ -11,10 +11,10 @@ use lib.Dec.{leb}
 use lib.ListN.{length}
 use Rattle.rules.specs.Scanner.{Takes, ends, goes, Scans}
 use Rattle.rules.proofs.Laws.Tests.{either, and-left, and-right}
-use Rattle.machine.specs.declared.Frame.{Frame}
-use Rattle.machine.specs.declared.Frame.the-variants.{Sizes, Edge, Query, Faulty}
+use Rattle.format.specs.declared.Frame.{Frame}
+use Rattle.format.specs.declared.Frame.the-variants.{Sizes, Edge, Query, Faulty}
 use Rattle.hexa.specs.Digits.{valueOf, andDigit, numberAt as digitsAt}
-use Rattle.machine.specs.Frames.{three, fieldsOf, sizesBy, frameBy, frameOf}
+use Rattle.format.specs.Frames.{three, fieldsOf, sizesBy, frameBy, frameOf}
 use Rattle.rules.specs.declared.Built.{Built}
 use Rattle.rules.specs.declared.Built.the-variants.{Tables, Refused}
 use Rattle.rules.specs.Outcomes.{BuildEnd}

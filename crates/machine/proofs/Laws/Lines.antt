@@ -11,10 +11,10 @@ use lib.Dec.{eqb, ltb}
 use lib.ListN.{length, length-append}
 use Rattle.rules.specs.Scanner.{scanFrom}
 use Rattle.rules.proofs.Laws.Tests.{either}
-use Rattle.machine.specs.declared.Frame.{Frame}
-use Rattle.machine.specs.declared.Frame.the-variants.{Sizes, Edge, Query, Faulty}
-use Rattle.machine.specs.Frames.{frameOf}
-use Rattle.machine.specs.Texts.{lineFeed}
+use Rattle.format.specs.declared.Frame.{Frame}
+use Rattle.format.specs.declared.Frame.the-variants.{Sizes, Edge, Query, Faulty}
+use Rattle.format.specs.Frames.{frameOf}
+use Rattle.format.specs.Texts.{lineFeed}
 use Rattle.machine.specs.Machine.{mostDigits, Stage, opening, gathering, answering, stopped, isStopped, Turn, silent, stops, onSizes, onEdge, onQuery, onFrame, badFrame, onLine, Machine, nextLine, Fed, turned, endLine, keep, byte, after, feed, lastBy, lastLine, ended, finish}
 use Rattle.machine.specs.Lines.{lastOf, linesFrom, fits, wellFramed, lineTurn, lineStep, lineEnd, program, spoken, closing}
 

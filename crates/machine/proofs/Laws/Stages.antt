@@ -11,10 +11,10 @@ use Rattle.rules.specs.declared.Refusal.{Refusal}
 use Rattle.machine.specs.declared.Phase.the-variants.{Opening, Gathering, Answering, Stopped}
 use Rattle.machine.specs.declared.Progress.{Progress}
 use Rattle.machine.specs.declared.Moved.{Moved}
-use Rattle.machine.specs.Texts.{refusalText}
+use Rattle.format.specs.Texts.{refusalText}
 use Rattle.machine.specs.Machine.{gathering, Turn, silent, stops, badFrame, onSizes, onEdge}
 use Rattle.machine.specs.Standing.{stageBy, stageOf, Fits, Comes}
-use Rattle.machine.proofs.Laws.Texts.{refusal-length}
+use Rattle.format.proofs.Laws.Texts.{refusal-length}
 
 -- another phase is not that of the answers
 pub opening-answering : {A : Type 0} → Opening ≡ Answering → A

@@ -15,8 +15,8 @@ use Rattle.rules.specs.Verdict.{_orElse_, when, sizes, levelCount, edgeCount, b
 use Rattle.rules.specs.Accept.{topOf, builtIndex}
 use Rattle.rules.specs.Outcomes.{front, zeroed, buildRefusal, buildNothing, buildTables, indexFor, buildAfter, build, answerAfter, storedRefusal, storedList, stored}
 use Rattle.rules.specs.Numbers.{ofRefusal}
-use Rattle.machine.specs.Frames.{three, fieldsOf, sizesBy, edgeBy, isNumber, valueOr0, tokenCount, isToken, tokenAt, allTokens, tokensOf, frameBy, frameOf}
-use Rattle.machine.specs.Texts.{refusalText, builtText, positions, listText, answerBy, answerText}
+use Rattle.format.specs.Frames.{three, fieldsOf, sizesBy, edgeBy, isNumber, valueOr0, tokenCount, isToken, tokenAt, allTokens, tokensOf, frameBy, frameOf}
+use Rattle.format.specs.Texts.{refusalText, builtText, positions, listText, answerBy, answerText}
 use Rattle.machine.specs.Machine.{isStopped, silent, stops, buildCall, builtBy, builds, storedCall, answers, onSizes, onEdge, asked, onQuery, onFrame, badFrame, onLine, beginning, nextLine, turned, endLine, keep, byte, after, feed, lastBy, lastLine, ended, finish, run}
 
 -- the document's input

@@ -22,7 +22,7 @@ use Rattle.rules.specs.Outcomes.{partOf, classBounds, runBounds, lookupAfter, l
 use Rattle.rules.proofs.Laws.Tests.{or-false-left, or-false-right}
 use Rattle.rules.proofs.Laws.Loops.{any-more, first-found}
 pub use Rattle.rules.proofs.Laws.Slices.{pred-is, take-from}
-use Rattle.query.proofs.Laws.Runs.{from-to, to-at-most, first-past-all}
+use Rattle.stored.proofs.Laws.Runs.{from-to, to-at-most, first-past-all}
 use Rattle.parts.specs.Parts.{Inside, isUnknown, firstUnknown}
 
 refused-part : {C : Type 0} {r : Refusal} {from to : ℕ} → Refused r ≡ Part from to → C

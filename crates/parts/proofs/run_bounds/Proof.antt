@@ -1,7 +1,7 @@
 -- Two ways: no entry has the code, and the part is empty; or the run from the first such entry on, two numbers an entry.
 use borrow.Author.Needs.{needs}
 use native.Mathlib.Omega.{arith}
-use Rattle.query.proofs.Laws.Runs.{to-at-most}
+use Rattle.stored.proofs.Laws.Runs.{to-at-most}
 use Rattle.parts.proofs.Laws.Parts.{run-none, run-some}
 use Rattle.parts.proofs.run_bounds.Statement.{statement}
 use Rattle.parts.proofs.run_bounds.Tie as tie

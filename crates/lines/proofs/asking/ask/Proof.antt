@@ -6,8 +6,8 @@ use native.Mathlib.Omega.{arith}
 use lib.ListN.{take, replicate}
 use lib.Seq.{length-take-le}
 use Rattle.rules.specs.Writing.{fill}
-use Rattle.machine.specs.Frames.{tokenCount, tokenAt, tokensOf}
-use Rattle.machine.proofs.Laws.Frames.{count-small}
+use Rattle.format.specs.Frames.{tokenCount, tokenAt, tokensOf}
+use Rattle.format.proofs.Laws.Frames.{count-small}
 use Rattle.lines.proofs.Laws.Asking.{tokens-of}
 use borrow.Author.Needs.{needs}
 use Rattle.lines.proofs.asking.ask.Statement.{statement}

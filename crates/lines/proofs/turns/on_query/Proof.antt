@@ -1,6 +1,6 @@
 -- `lines::turns::on_query` meets its contract.
 use mathlib.Core.Path.{_∙_}
-use Rattle.machine.specs.Frames.{tokensOf}
+use Rattle.format.specs.Frames.{tokensOf}
 use Rattle.machine.proofs.Laws.Stages.{comes-as}
 use Rattle.lines.proofs.Laws.Turns.{silent-comes, query-opening, query-gathering, query-answering, query-stopped}
 use borrow.Author.Needs.{needs}

@@ -1,6 +1,6 @@
 -- `lines::turns::then_ask` meets its contract.
 use native.Mathlib.Omega.{arith}
-use Rattle.machine.specs.Frames.{tokensOf}
+use Rattle.format.specs.Frames.{tokensOf}
 use Rattle.lines.proofs.Laws.Turns.{unasked, asked-there, answers-opening, answers-gathering, answers-stopped}
 use borrow.Author.Needs.{needs}
 use Rattle.lines.proofs.turns.then_ask.Statement.{statement}

@@ -12,8 +12,8 @@ use Rattle.entries.proofs.Laws.Went as went
 use Rattle.rules.specs.Levels.{maxOf}
 use Rattle.rules.specs.Graph.{graphOf}
 use Rattle.sorting.specs.Sort.{Contiguous}
-use Rattle.lists.proofs.Laws.Walking as walking
-use Rattle.lists.proofs.Laws.Bounds as bounds
+use Rattle.sequences.proofs.Laws.Walking as walking
+use Rattle.sequences.proofs.Laws.Bounds as bounds
 use Rattle.lists.proofs.Laws.Lengths as listed
 use Rattle.lists.proofs.listing.lengths.Statement.{statement}
 use Rattle.lists.proofs.listing.lengths.Tie as tie

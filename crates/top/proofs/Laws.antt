@@ -1,0 +1,4 @@
+pub mod Fronts
+pub mod Counts
+pub mod Edges
+pub mod Top
