@@ -1,80 +1,69 @@
-// A line: its letter says which entry is called.
-use crate::direct;
+// A case: its letter says which entry is called.
+use crate::answers;
+use crate::forms;
 use crate::parts;
+use crate::printing;
+use crate::reading;
+use crate::reading::Found;
 use crate::source;
-use crate::source::Source;
-use crate::stored;
+use crate::store;
 use crate::tables;
 use libc::STDOUT_FILENO;
+use rules::Report;
 
-// The letters of the entries that take an edge table or return a part: D, P and L. Another names no entry.
-fn short_line(letter: u8, input: &mut [u8], s: Source, out: &mut [u8]) -> Source {
-    if letter == 68 {
-        return direct::direct_line(input, s, out);
-    }
-    if letter == 80 {
-        return parts::pairs_line(input, s, out);
-    }
-    if letter == 76 {
-        return parts::lookup_line(input, s, out);
-    }
-    source::unsound(s)
-}
-
-// A line behind its letter. Each entry's line has lists of its own, which are zero before the case is read.
-fn any_line(letter: u8, input: &mut [u8], s: Source, out: &mut [u8]) -> Source {
-    if is_tables(letter) {
-        return tables::tables_line(letter, input, s, out);
-    }
-    if is_stored(letter) {
-        return stored::stored_line(letter, input, s, out);
-    }
-    short_line(letter, input, s, out)
-}
-
-// B and C.
-fn is_tables(letter: u8) -> bool {
-    if letter == 66 {
-        return true;
-    }
-    letter == 67
-}
-
-// S and K.
-fn is_stored(letter: u8) -> bool {
-    if letter == 83 {
-        return true;
-    }
-    letter == 75
-}
-
-// The input behind a line, and whether there may be another.
-pub struct Line {
-    pub source: Source,
-    pub more: bool,
-}
-
-fn tell(source: Source) -> Line {
-    let sound = source.sound;
-    if !sound {
-        io::write_all(STDOUT_FILENO, b"no case\n");
-    }
-    Line {
-        source,
-        more: sound,
+// The entry of a letter.
+fn call(letter: u8, store: &mut [u32], area: &mut [u8]) -> Report {
+    match letter {
+        b'B' => tables::build(store, area),
+        b'C' => tables::check(store, area),
+        b'P' => parts::pairs(store),
+        b'L' => parts::lookup(store),
+        _ => answers::answer(letter, store, area),
     }
 }
 
-// Reads a line and prints the answer, unless the input is at its end.
-pub fn next_line(input: &mut [u8], s: Source, out: &mut [u8]) -> Line {
-    let seen = source::peek(input, s);
-    let from = seen.source;
-    if from.end <= from.at {
-        return Line {
-            source: from,
-            more: false,
-        };
+// The area is put back behind the call.
+fn call_with(letter: u8, area: &mut [u8], store: &mut [u32]) -> Report {
+    let report = call(letter, store, area);
+    store::keep_bytes(store, forms::AREA, area);
+    report
+}
+
+fn answer_case(letter: u8, store: &mut [u32], out: &mut [u8]) {
+    let mut area = [0u8; 149785];
+    let report = call_with(
+        letter,
+        store::fetch_bytes(store, forms::AREA, &mut area),
+        store,
+    );
+    printing::print_case(out, report, store, forms::form_of(letter));
+}
+
+// Answers a case, and says whether there may be another.
+fn answer(found: Found, store: &mut [u32], out: &mut [u8]) -> bool {
+    match found {
+        Found::Case(letter) => {
+            answer_case(letter, store, out);
+            true
+        }
+        Found::NoCase => {
+            io::write_all(STDOUT_FILENO, b"no case\n");
+            false
+        }
+        Found::End => false,
     }
-    let behind = any_line(seen.byte, input, source::taken(from), out);
-    tell(behind)
+}
+
+// A proved loop has to end, and nothing says that the input does: the lines are counted down, from a number that no run uses up.
+pub fn answer_lines(input: &mut [u8], store: &mut [u32], out: &mut [u8]) {
+    let mut source = source::start();
+    let mut more = true;
+    let mut turns = u64::MAX;
+    while more && turns > 0 {
+        let line = reading::next_line(input, source, store);
+        let found = line.found;
+        source = line.source;
+        more = answer(found, store, out);
+        turns -= 1;
+    }
 }

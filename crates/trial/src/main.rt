@@ -3,40 +3,30 @@
 
 // the bytes and the numbers of the input
 mod source;
-// the lists of a case
-mod lists;
-// the front of a lent list
-mod fronts;
 // the bytes and the numbers of the output
 mod output;
-// the lists of an answer
+// the front of a lent list
+mod fronts;
+// what a case of each letter has
+mod forms;
+// a case as one list of numbers
+mod store;
+// from a line to a case
+mod reading;
+// from a case to a line
 mod printing;
-// the lists of build and check
-mod table_lists;
+// direct, stored and class answer
+mod answers;
 // build and check
 mod tables;
-// the lists of every answer
-mod asked;
-// direct answer
-mod direct;
-// stored and class answer
-mod stored;
 // pairs of a class, and sequence lookup
 mod parts;
-// a line of any letter
+// a case of any letter
 mod cases;
 
-// A proved loop has to end, and nothing says that the input does: the lines are counted down, from a number that no run uses up.
 fn main() {
     let mut input = [0u8; 65536];
+    let mut store = [0u32; 318748];
     let mut output = [0u8; 65536];
-    let mut source = source::start();
-    let mut more = true;
-    let mut turns = u64::MAX;
-    while more && turns > 0 {
-        let line = cases::next_line(&mut input, source, &mut output);
-        source = line.source;
-        more = line.more;
-        turns -= 1;
-    }
+    cases::answer_lines(&mut input, &mut store, &mut output);
 }

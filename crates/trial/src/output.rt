@@ -44,14 +44,14 @@ pub fn put_decimal(output: &mut [u8], at: usize, x: u64) -> usize {
 
 // A space and a number.
 pub fn put_next(output: &mut [u8], at: usize, x: u64) -> usize {
-    let to = put(output, at, 32);
+    let to = put(output, at, b' ');
     put_decimal(output, to, x)
 }
 
 // A space, and a run with its star.
 fn put_run(output: &mut [u8], at: usize, many: u64, x: u64) -> usize {
     let star = put_next(output, at, many);
-    let to = put(output, star, 42);
+    let to = put(output, star, b'*');
     put_decimal(output, to, x)
 }
 

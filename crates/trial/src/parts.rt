@@ -1,9 +1,6 @@
-// Lines of the pairs of a class and of the sequence lookup.
-use crate::fronts;
-use crate::lists;
-use crate::printing;
-use crate::source;
-use crate::source::Source;
+// Pairs of a class and sequence lookup: the bounds of a part, and the part itself.
+use crate::forms;
+use crate::store;
 use rules::Bounds;
 use rules::Report;
 
@@ -27,109 +24,62 @@ fn report_bounds(bounds: Bounds) -> Report {
     }
 }
 
-// How many numbers the two lists have.
-struct Two {
-    source: Source,
-    first: usize,
-    second: usize,
+// Whether a part has the numbers of the list from a place up to but without another.
+fn is_between(part: &[u32], list: &[u32], from: usize, to: usize) -> bool {
+    let mut at = from;
+    let mut i: usize = 0;
+    while i < part.len() {
+        if to <= at {
+            return false;
+        }
+        if store::number(list, at) != part[i] {
+            return false;
+        }
+        at += 1;
+        i += 1;
+    }
+    at == to
 }
 
-fn read_starts_order(input: &mut [u8], s: Source, starts: &mut [u32], order: &mut [u32]) -> Two {
-    let t = lists::read_numbers(input, s, starts);
-    let behind_starts = t.source;
-    let o = lists::read_numbers(input, behind_starts, order);
-    let behind_order = o.source;
-    let source = source::expect(input, behind_order, 10);
-    Two {
-        source,
-        first: t.count,
-        second: o.count,
+// Whether the part that is handed out is the one that the bounds say: none where the entry refuses.
+fn is_part(part: &[u32], list: &[u32], bounds: Bounds) -> bool {
+    match bounds {
+        Bounds::Part(from, to) => is_between(part, list, from, to),
+        Bounds::Refused(_) => part.len() == 0,
     }
 }
 
-fn print_pairs(out: &mut [u8], report: Report, two: Two, starts: &[u32], order: &[u32]) {
-    let behind_report = printing::put_report(out, report);
-    let behind_starts = printing::put_numbers(
-        out,
-        behind_report,
-        fronts::numbers(starts, two.first),
-    );
-    let behind_order = printing::put_numbers(
-        out,
-        behind_starts,
-        fronts::numbers(order, two.second),
-    );
-    printing::end_line(out, behind_order);
-}
-
-fn answer_pairs(c: u32, two: Two, out: &mut [u8], starts: &[u32], order: &[u32]) {
-    let bounds = index::class_bounds(
-        c,
-        fronts::numbers(starts, two.first),
-        fronts::numbers(order, two.second),
-    );
-    print_pairs(out, report_bounds(bounds), two, starts, order);
-}
-
-// A line behind its letter P.
-pub fn pairs_line(input: &mut [u8], s: Source, out: &mut [u8]) -> Source {
-    let mut starts = [0u32; 16650];
-    let mut order = [0u32; 16650];
-    let c = source::next_number(input, s);
-    let behind_class = c.source;
-    let two = read_starts_order(input, behind_class, &mut starts, &mut order);
-    let source = two.source;
-    let sound = source.sound;
-    if !sound {
-        return source;
+// What the bounds say; no entry says what stands here for another part.
+fn report_part(part: &[u32], list: &[u32], bounds: Bounds) -> Report {
+    if is_part(part, list, bounds) {
+        return report_bounds(bounds);
     }
-    answer_pairs(c.value, two, out, &starts, &order);
-    source
-}
-
-fn read_symbols_entries(
-    input: &mut [u8],
-    s: Source,
-    symbols: &mut [u8],
-    entries: &mut [u32],
-) -> Two {
-    let y = lists::read_bytes(input, s, symbols);
-    let behind_symbols = y.source;
-    let e = lists::read_numbers(input, behind_symbols, entries);
-    let behind_entries = e.source;
-    let source = source::expect(input, behind_entries, 10);
-    Two {
-        source,
-        first: y.count,
-        second: e.count,
+    Report {
+        number: 0,
+        a: 1,
+        b: 0,
+        c: 0,
     }
 }
 
-fn print_lookup(out: &mut [u8], report: Report, two: Two, symbols: &[u8], entries: &[u32]) {
-    let behind_report = printing::put_report(out, report);
-    let behind_symbols = printing::put_bytes(out, behind_report, fronts::bytes(symbols, two.first));
-    let behind_entries = printing::put_numbers(
-        out,
-        behind_symbols,
-        fronts::numbers(entries, two.second),
-    );
-    printing::end_line(out, behind_entries);
+pub fn pairs(store: &[u32]) -> Report {
+    let c = store::number(store, store::FIRST);
+    let starts = store::numbers(store, forms::STARTS);
+    let order = store::numbers(store, forms::ORDER);
+    let bounds = index::class_bounds(c, starts, order);
+    report_part(index::class_pairs(c, starts, order), order, bounds)
 }
 
-// A line behind its letter L.
-pub fn lookup_line(input: &mut [u8], s: Source, out: &mut [u8]) -> Source {
+fn lookup_with(symbols: &mut [u8], store: &[u32]) -> Report {
+    let entries = store::numbers(store, forms::ENTRIES);
+    let bounds = index::lookup_bounds(symbols, entries);
+    report_part(index::lookup(symbols, entries), entries, bounds)
+}
+
+pub fn lookup(store: &[u32]) -> Report {
     let mut symbols = [0u8; 80];
-    let mut entries = [0u32; 40000];
-    let two = read_symbols_entries(input, s, &mut symbols, &mut entries);
-    let source = two.source;
-    let sound = source.sound;
-    if !sound {
-        return source;
-    }
-    let bounds = index::lookup_bounds(
-        fronts::bytes(&symbols, two.first),
-        fronts::numbers(&entries, two.second),
-    );
-    print_lookup(out, report_bounds(bounds), two, &symbols, &entries);
-    source
+    lookup_with(
+        store::fetch_bytes(store, forms::TOKENS, &mut symbols),
+        store,
+    )
 }

@@ -184,42 +184,6 @@ pub fn read_number(input: &mut [u8], s: Source) -> Number {
 
 // A space and a number.
 pub fn next_number(input: &mut [u8], s: Source) -> Number {
-    let source = expect(input, s, 32);
+    let source = expect(input, s, b' ');
     read_number(input, source)
-}
-
-// The sizes of a case, in the order in which they stand there.
-pub struct Sizes {
-    pub source: Source,
-    pub items: u32,
-    pub labels: u32,
-    pub k: u32,
-}
-
-// Items and labels.
-pub fn two_sizes(input: &mut [u8], s: Source) -> Sizes {
-    let items = next_number(input, s);
-    let from = items.source;
-    let labels = next_number(input, from);
-    let source = labels.source;
-    Sizes {
-        source,
-        items: items.value,
-        labels: labels.value,
-        k: 0,
-    }
-}
-
-// Items, labels and k.
-pub fn three_sizes(input: &mut [u8], s: Source) -> Sizes {
-    let two = two_sizes(input, s);
-    let from = two.source;
-    let k = next_number(input, from);
-    let source = k.source;
-    Sizes {
-        source,
-        items: two.items,
-        labels: two.labels,
-        k: k.value,
-    }
 }

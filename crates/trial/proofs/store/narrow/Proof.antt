@@ -1,19 +1,25 @@
--- `trial::lists::fill_bytes` is safe and ends: the list keeps its length, and what is left falls.
+-- `trial::store::narrow` is safe and ends: the list keeps its length, and what is left to copy falls.
 use borrow.Author.Needs.{needs}
 use lib.ListN.{length}
 use mathlib.Core.Path.{_≡_}
 use Prim.Native.Nat.{_-_}
-use Rattle.trial.proofs.lists.fill_bytes.Statement.{statement}
-use Rattle.trial.proofs.lists.fill_bytes.Tie as tie
+use Rattle.trial.proofs.store.narrow.Statement.{statement}
+use Rattle.trial.proofs.store.narrow.Tie as tie
 
 abbrev Inv-loop : tie.InvT-loop
-Inv-loop list₀ from to value i₀ list i = (length list ≡ length list₀)
+Inv-loop from to₀ i₀ to i = length to ≡ length to₀
 
 abbrev μ-loop : tie.MeasureT-loop
-μ-loop list₀ from to value i₀ list i = to - i
+μ-loop from to₀ i₀ to i = length from - i
 
 loop-holds : tie.Need-loop-holds Inv-loop μ-loop
 loop-holds c = search needs
+
+mul-put-byte : tie.Need-mul-put-byte Inv-loop μ-loop
+mul-put-byte c = search needs
+
+shared-slice-read-put-byte : tie.Need-shared-slice-read-put-byte Inv-loop μ-loop
+shared-slice-read-put-byte c = search needs
 
 put-byte-requires : tie.Need-put-byte-requires Inv-loop μ-loop
 put-byte-requires c κs = search needs
@@ -33,13 +39,15 @@ same-length c = search needs
 returns : tie.Need-returns Inv-loop μ-loop
 returns c = search needs
 
-pub fill-bytes-spec : {M : Type 1} → statement M
-fill-bytes-spec =
+pub narrow-spec : {M : Type 1} → statement M
+narrow-spec =
     tie.close
     (tie.spec
     Inv-loop
     μ-loop
     loop-holds
+    mul-put-byte
+    shared-slice-read-put-byte
     put-byte-requires
     add-i
     loop-less

@@ -1,10 +1,10 @@
--- `trial::printing::put_bytes` is safe and ends: the buffer keeps its length, and what is left of the list falls.
+-- `trial::printing::put_list` is safe and ends: the buffer keeps its length, and what is left of the list falls.
 use borrow.Author.Needs.{needs}
 use lib.ListN.{length}
 use mathlib.Core.Path.{_≡_}
 use Prim.Native.Nat.{_-_, _≤_}
-use Rattle.trial.proofs.printing.put_bytes.Statement.{statement}
-use Rattle.trial.proofs.printing.put_bytes.Tie as tie
+use Rattle.trial.proofs.printing.put_list.Statement.{statement}
+use Rattle.trial.proofs.printing.put_list.Tie as tie
 
 abbrev Inv-loop : tie.InvT-loop
 Inv-loop out₀ at list to₀ i₀ out to i = (i ≤ length list) × (length out ≡ length out₀)
@@ -18,17 +18,20 @@ put-next-requires c κs = search needs
 loop-holds : tie.Need-loop-holds Inv-loop μ-loop
 loop-holds c = search needs
 
-bytes-alike-requires : tie.Need-bytes-alike-requires Inv-loop μ-loop
-bytes-alike-requires c κs = search needs
+alike-requires : tie.Need-alike-requires Inv-loop μ-loop
+alike-requires c κs = search needs
 
 sub-put-stretch : tie.Need-sub-put-stretch Inv-loop μ-loop
 sub-put-stretch c = search needs
 
-shared-slice-read-wide-byte : tie.Need-shared-slice-read-wide-byte Inv-loop μ-loop
-shared-slice-read-wide-byte c = search needs
+mul-wide : tie.Need-mul-wide Inv-loop μ-loop
+mul-wide c = search needs
 
-wide-byte-requires : tie.Need-wide-byte-requires Inv-loop μ-loop
-wide-byte-requires c κs = search needs
+shared-slice-read-wide : tie.Need-shared-slice-read-wide Inv-loop μ-loop
+shared-slice-read-wide c = search needs
+
+wide-requires : tie.Need-wide-requires Inv-loop μ-loop
+wide-requires c κs = search needs
 
 put-stretch-requires : tie.Need-put-stretch-requires Inv-loop μ-loop
 put-stretch-requires c κs = search needs
@@ -45,18 +48,19 @@ same-length c = search needs
 returns : tie.Need-returns Inv-loop μ-loop
 returns c = search needs
 
-pub put-bytes-spec : {M : Type 1} → statement M
-put-bytes-spec =
+pub put-list-spec : {M : Type 1} → statement M
+put-list-spec =
     tie.close
     (tie.spec
     Inv-loop
     μ-loop
     put-next-requires
     loop-holds
-    bytes-alike-requires
+    alike-requires
     sub-put-stretch
-    shared-slice-read-wide-byte
-    wide-byte-requires
+    mul-wide
+    shared-slice-read-wide
+    wide-requires
     put-stretch-requires
     loop-less
     loop-again

@@ -1,22 +1,28 @@
--- `trial::lists::fill_numbers` is safe and ends: the list keeps its length, and what is left falls.
+-- `trial::store::widen` is safe and ends: the list keeps its length, and what is left to copy falls.
 use borrow.Author.Needs.{needs}
 use lib.ListN.{length}
 use mathlib.Core.Path.{_≡_}
 use Prim.Native.Nat.{_-_}
-use Rattle.trial.proofs.lists.fill_numbers.Statement.{statement}
-use Rattle.trial.proofs.lists.fill_numbers.Tie as tie
+use Rattle.trial.proofs.store.widen.Statement.{statement}
+use Rattle.trial.proofs.store.widen.Tie as tie
 
 abbrev Inv-loop : tie.InvT-loop
-Inv-loop list₀ from to value i₀ list i = (length list ≡ length list₀)
+Inv-loop from to₀ i₀ to i = length to ≡ length to₀
 
 abbrev μ-loop : tie.MeasureT-loop
-μ-loop list₀ from to value i₀ list i = to - i
+μ-loop from to₀ i₀ to i = length from - i
 
 loop-holds : tie.Need-loop-holds Inv-loop μ-loop
 loop-holds c = search needs
 
-put-number-requires : tie.Need-put-number-requires Inv-loop μ-loop
-put-number-requires c κs = search needs
+shared-slice-read-wide : tie.Need-shared-slice-read-wide Inv-loop μ-loop
+shared-slice-read-wide c = search needs
+
+wide-requires : tie.Need-wide-requires Inv-loop μ-loop
+wide-requires c κs = search needs
+
+put-requires : tie.Need-put-requires Inv-loop μ-loop
+put-requires c κs = search needs
 
 add-i : tie.Need-add-i Inv-loop μ-loop
 add-i c = search needs
@@ -33,14 +39,16 @@ same-length c = search needs
 returns : tie.Need-returns Inv-loop μ-loop
 returns c = search needs
 
-pub fill-numbers-spec : {M : Type 1} → statement M
-fill-numbers-spec =
+pub widen-spec : {M : Type 1} → statement M
+widen-spec =
     tie.close
     (tie.spec
     Inv-loop
     μ-loop
     loop-holds
-    put-number-requires
+    shared-slice-read-wide
+    wide-requires
+    put-requires
     add-i
     loop-less
     loop-again

@@ -1,16 +1,16 @@
--- `trial::lists::read_byte_words` is safe and ends: both buffers keep their lengths, and what is left of the list falls.
+-- `trial::reading::read_words` is safe and ends: both buffers keep their lengths, and what is left of the list falls.
 use borrow.Author.Needs.{needs}
 use lib.ListN.{length}
 use mathlib.Core.Path.{_≡_}
 use Prim.Native.Nat.{_-_}
-use Rattle.trial.proofs.lists.read_byte_words.Statement.{statement}
-use Rattle.trial.proofs.lists.read_byte_words.Tie as tie
+use Rattle.trial.proofs.reading.read_words.Statement.{statement}
+use Rattle.trial.proofs.reading.read_words.Tie as tie
 
 abbrev Inv-loop : tie.InvT-loop
-Inv-loop input₀ list₀ count source₀ at₀ input list source at = (length input ≡ length input₀) × (length list ≡ length list₀)
+Inv-loop input₀ store₀ from end most source₀ at₀ input store source at = (length input ≡ length input₀) × (length store ≡ length store₀)
 
 abbrev μ-loop : tie.MeasureT-loop
-μ-loop input₀ list₀ count source₀ at₀ input list source at = count - at
+μ-loop input₀ store₀ from end most source₀ at₀ input store source at = end - at
 
 loop-holds : tie.Need-loop-holds Inv-loop μ-loop
 loop-holds c = search needs
@@ -18,11 +18,8 @@ loop-holds c = search needs
 next-stretch-requires : tie.Need-next-stretch-requires Inv-loop μ-loop
 next-stretch-requires c κs = search needs
 
-low-requires : tie.Need-low-requires Inv-loop μ-loop
-low-requires c κs = search needs
-
-fill-bytes-requires : tie.Need-fill-bytes-requires Inv-loop μ-loop
-fill-bytes-requires c κs = search needs
+fill-requires : tie.Need-fill-requires Inv-loop μ-loop
+fill-requires c κs = search needs
 
 loop-less : tie.Need-loop-less Inv-loop μ-loop
 loop-less c = search needs
@@ -39,16 +36,15 @@ same-length-2 c = search needs
 returns : tie.Need-returns Inv-loop μ-loop
 returns c = search needs
 
-pub read-byte-words-spec : {M : Type 1} → statement M
-read-byte-words-spec =
+pub read-words-spec : {M : Type 1} → statement M
+read-words-spec =
     tie.close
     (tie.spec
     Inv-loop
     μ-loop
     loop-holds
     next-stretch-requires
-    low-requires
-    fill-bytes-requires
+    fill-requires
     loop-less
     loop-again
     same-length

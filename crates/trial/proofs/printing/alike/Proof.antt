@@ -1,9 +1,9 @@
--- `trial::printing::numbers_alike` meets its contract: the place is past `from` and within the list.
+-- `trial::printing::alike` meets its contract: the place is past `from` and within the list.
 use borrow.Author.Needs.{needs}
 use lib.ListN.{length}
 use Prim.Native.Nat.{_-_, _<_, _≤_}
-use Rattle.trial.proofs.printing.numbers_alike.Statement.{statement}
-use Rattle.trial.proofs.printing.numbers_alike.Tie as tie
+use Rattle.trial.proofs.printing.alike.Statement.{statement}
+use Rattle.trial.proofs.printing.alike.Tie as tie
 
 abbrev Inv-loop : tie.InvT-loop
 Inv-loop list from x i₀ i = (from < i) × (i ≤ length list)
@@ -44,8 +44,8 @@ loop-again c = search needs
 returns-2 : tie.Need-returns-2 Inv-loop μ-loop
 returns-2 c = search needs
 
-pub numbers-alike-spec : {M : Type 1} → statement M
-numbers-alike-spec =
+pub alike-spec : {M : Type 1} → statement M
+alike-spec =
     tie.close
     (tie.spec
     Inv-loop
