@@ -1,6 +1,6 @@
 // Direct, stored and class answer. Tokens, answers and area are lent as copies, and put back behind the call.
-use crate::forms;
-use crate::store;
+use cases::forms;
+use cases::store;
 use rules::Answered;
 use rules::Report;
 
@@ -37,7 +37,7 @@ fn answer_with(
     let answered = call(letter, store, tokens, answers, area);
     store::keep_bytes(store, forms::TOKENS, tokens);
     store::keep(store, forms::ANSWERS, answers);
-    rules::report_answered(answered)
+    reports::report_answered(answered)
 }
 
 pub fn answer(letter: u8, store: &mut [u32], area: &mut [u8]) -> Report {

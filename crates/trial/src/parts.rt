@@ -1,6 +1,6 @@
 // Pairs of a class and sequence lookup: the bounds of a part, and the part itself.
-use crate::forms;
-use crate::store;
+use cases::forms;
+use cases::store;
 use rules::Bounds;
 use rules::Report;
 

@@ -1,6 +1,6 @@
 // Build and check. What build writes is lent as copies, and put back behind the call.
-use crate::forms;
-use crate::store;
+use cases::forms;
+use cases::store;
 use rules::Report;
 
 pub fn check(store: &[u32], area: &mut [u8]) -> Report {
@@ -15,7 +15,7 @@ pub fn check(store: &[u32], area: &mut [u8]) -> Report {
         store::numbers(store, forms::ENTRIES),
         area,
     );
-    rules::report_checked(checked)
+    reports::report_checked(checked)
 }
 
 fn keep(store: &mut [u32], levels: &[u32], starts: &[u32], order: &[u32], entries: &[u32]) {
@@ -45,7 +45,7 @@ fn build_with(
         area,
     );
     keep(store, levels, starts, order, entries);
-    rules::report_built(built)
+    reports::report_built(built)
 }
 
 pub fn build(store: &mut [u32], area: &mut [u8]) -> Report {
