@@ -61,10 +61,10 @@ pub fn halves(
         let a = number_at(n, levels, first, v, m);
         let b = number_at(n, levels, second, m, u);
         m += 1;
-        if a == 0 {
+        if b == 0 {
             continue;
         }
-        if b == 0 {
+        if a == 0 {
             continue;
         }
         let x = midpoint_of(c, a, b);

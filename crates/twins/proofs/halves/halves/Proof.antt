@@ -60,18 +60,18 @@ loop-less-2 c = omega arith
 
 loop-again-2 : tie.Need-loop-again-2 Inv-loop μ-loop
 loop-again-2 c =
-    let a = c .before .before in
-    let l = a .before .before .before .before .loop in
-    (omega arith, halves-first _ _ _ _ _ _ _ _ _ _ _ (l .inv .1) (a .number-at .ensures) (c .if2 .taken), l .inv .2)
+    let b = c .before in
+    let l = b .before .before .before .before .before .loop in
+    (omega arith, halves-second _ _ _ _ _ _ _ _ _ _ _ (l .inv .1) (b .number-at2 .ensures) (c .if2 .taken), l .inv .2)
 
 loop-less-3 : tie.Need-loop-less-3 Inv-loop μ-loop
 loop-less-3 c = omega arith
 
 loop-again-3 : tie.Need-loop-again-3 Inv-loop μ-loop
 loop-again-3 c =
-    let b = c .before .before in
-    let l = b .before .before .before .before .before .loop in
-    (omega arith, halves-second _ _ _ _ _ _ _ _ _ _ _ (l .inv .1) (b .number-at2 .ensures) (c .if3 .taken), l .inv .2)
+    let a = c .before .before .before in
+    let l = a .before .before .before .before .loop in
+    (omega arith, halves-first _ _ _ _ _ _ _ _ _ _ _ (l .inv .1) (a .number-at .ensures) (c .if3 .taken), l .inv .2)
 
 midpoint-of-requires : tie.Need-midpoint-of-requires Inv-loop μ-loop
 midpoint-of-requires c κs =
@@ -119,7 +119,7 @@ loop-again-5 c =
     let t = a .before .before .before in
     let l = t .before .loop in (
       omega arith,
-      halves-new _ _ _ _ _ _ _ _ _ _ _ (l .inv .1) (a .number-at .ensures) (b .number-at2 .ensures) (p .midpoint-of .ensures) (e3 .before .if2 .left) (e3 .if3 .left) (t .loop-test .taken),
+      halves-new _ _ _ _ _ _ _ _ _ _ _ (l .inv .1) (a .number-at .ensures) (b .number-at2 .ensures) (p .midpoint-of .ensures) (e3 .if3 .left) (e3 .before .if2 .left) (t .loop-test .taken),
       simp length-set (l .inv .2),
     )
 
