@@ -1,4 +1,4 @@
--- What build's steps ask and leave.
+-- What build's steps ask and leave, and how its work ends.
 use Prim.Native.Nat.{ℕ, _*_, _/_, _≤_, _<_}
 use mathlib.Core.Path.{_≡_}
 use mathlib.Core.List.{List}

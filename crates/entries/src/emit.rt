@@ -9,7 +9,7 @@ ghost use mathlib.Core.List.{List, [], _∷_, _++_};
 ghost use mathlib.Core.Bool.{Bool, cond, not, _&&_};
 ghost use Prim.Native.Nat.{ℕ, _+_, _*_, _-_, _≤_, _<_};
 ghost use lib.Dec.{eqb};
-ghost use lib.ListN.{length, getD};
+ghost use lib.ListN.{length};
 ghost use Rattle.rules.specs.Finite.{countBelow};
 ghost use Rattle.rules.specs.Accept.{difference};
 ghost use Rattle.relations.specs.Relations.{bitAt, Frame, Slot};

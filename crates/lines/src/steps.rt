@@ -1,6 +1,5 @@
 // The steps of the machine: a byte, and the line that it ends.
 ghost use mathlib.Core.Path.{_≡_};
-ghost use Prim.Native.Nat.{_≤_};
 ghost use lib.ListN.{length};
 ghost use Rattle.machine.specs.Machine.{endLine, byte};
 ghost use Rattle.machine.specs.Standing.{machineOf, Stands, Steps};

@@ -41,11 +41,6 @@ count-more w from firsts l u e h ex = (
   omega (arith, ex, one-at-most (not (eqb (getD w (firsts + u) 0) 0) && bitAt l (getD w (from + u) 0))),
 )
 
-pub count-le : (n : ℕ) (f : ℕ → Bool) → countBelow n f ≤ n
-unfolding countBelow
-count-le zero f = omega arith
-count-le (suc n) f = omega (arith, count-le n f, one-at-most (f n))
-
 -- the hits of a row are its entries
 told : (b : Bool) → not (eqb (cond {A = ℕ} b 1 0) 0) ≡ b
 told true = refl

@@ -1,28 +1,24 @@
 -- What build says of the program's call depends on how much is lent, not on what stands there.
 use Prim.Native.Nat.{ℕ, _*_, _/_, _≤_}
-use mathlib.Core.Path.{_≡_, refl, sym, ap, _∙_}
+use mathlib.Core.Path.{_≡_, refl, sym, ap, _∙_, subst}
 use mathlib.Core.List.{List}
-use mathlib.Core.Bool.{Bool, true, false, cond}
+use mathlib.Core.Bool.{true}
 use native.Mathlib.Omega.{arith}
 use borrow.Author.Tests.{leb-true}
 use lib.Dec.{leb}
-use lib.ListN.{length, take, drop, replicate, length-replicate}
-use lib.Seq.{sets, take-append-le}
+use lib.ListN.{length, take, replicate, length-replicate}
+use lib.Seq.{sets}
 use Rattle.rules.specs.declared.Refusal.{Refusal}
-use Rattle.rules.specs.declared.Refusal.the-variants.{EntryRoom}
 use Rattle.rules.specs.declared.Built.{Built}
 use Rattle.rules.specs.declared.Built.the-variants.{Tables, Refused}
-use Rattle.rules.specs.Graph.{graphOf}
-use Rattle.rules.specs.Rule.{rule}
-use Rattle.rules.specs.Levels.{maxOf, levelOf, builtLevels}
+use Rattle.rules.specs.Levels.{levelOf}
 use Rattle.rules.specs.Verdict.{Verdict, good, refuse, room}
-use Rattle.rules.specs.Accept.{Index, topOf, builtIndex}
 use Rattle.rules.specs.Promises.{Builds}
 use Rattle.rules.specs.Calls.{buildCall as lentCall}
-use Rattle.rules.specs.Outcomes.{front, BuildCall, BuildEnd, buildRefusal, buildNothing, buildTables, indexFor, buildAfter, build}
+use Rattle.rules.specs.Outcomes.{BuildCall, BuildEnd, buildRefusal, buildNothing, buildTables, indexFor, buildAfter, build}
 use Rattle.rules.proofs.Laws.Links.{LevelsFit, levels-fit}
 use Rattle.rules.proofs.Laws.Calls.{build-passed}
-use Rattle.rules.proofs.Laws.Levels.{levels-size, level-front}
+use Rattle.rules.proofs.Theorems.Builder.{unrefused, counts, level-is-built, entries-cut}
 use Rattle.machine.specs.declared.Phase.the-variants.{Answering}
 use Rattle.machine.specs.declared.Progress.{Progress}
 use Rattle.machine.specs.declared.Moved.{Moved}
@@ -32,53 +28,15 @@ use Rattle.machine.specs.Standing.{stageBy, stageOf, Fits, Comes}
 use Rattle.lines.specs.Lent.{callOf, Made}
 use Rattle.format.proofs.Laws.Texts.{built-length, refusal-length}
 
-refused-tables : {C : Type 0} {r : Refusal} {a b m : ℕ} → Refused r ≡ Tables a b m → C
-refused-tables e = let z : _≡_ {A = ℕ} 0 1 = cc in absurd (omega arith)
-
--- a build that returned tables: nothing was refused, the entries had room, and the tables stand at the front
-told : (b : Bool) (x y z n a p m : ℕ) → cond b (Tables x y z) (Refused (EntryRoom n)) ≡ Tables a p m → (b ≡ true) × (z ≡ m)
-told true x y z n a p m e = (refl, cc)
-told false x y z n a p m e = refused-tables e
-
-after-good : (c : BuildCall) (v : Verdict) (a p m : ℕ) → buildAfter c v .result ≡ Tables a p m → v ≡ good
-unfolding buildAfter buildNothing
-after-good c good a p m e = refl
-after-good c (refuse r) a p m e = refused-tables e
-
+-- a build that returned tables: the entries had room, and k is one that build takes
 module _ (c : BuildCall) (a p m : ℕ) (done : build c .result ≡ Tables a p m) where
-  unrefused : buildRefusal c ≡ good
-  unfolding build
-  unrefused = after-good c (buildRefusal c) a p m done
-
-  worked : build c ≡ buildTables c (indexFor c)
-  unfolding build buildAfter
-  worked = rw unrefused
-
-  counted : (leb (length (indexFor c .entries) / 2) (length (c .entries) / 2) ≡ true) × (length (indexFor c .entries) / 2 ≡ m)
-  unfolding buildTables
-  counted =
-      let many = length (indexFor c .entries) / 2 in
-      told (leb many (length (c .entries) / 2)) (maxOf (topOf (indexFor c))) (length (indexFor c .order)) many many a p m (sym (ap (λ (e : BuildEnd). e .result) worked) ∙ done)
-
   pub many-built : m ≤ length (c .entries) / 2
-  many-built = omega (arith, leb-true (length (indexFor c .entries) / 2) (length (c .entries) / 2) (counted .0), counted .1)
+  many-built =
+      let r = counts c a p m done in
+      leb-true m (length (c .entries) / 2) (subst (λ (n : ℕ). leb n (length (c .entries) / 2) ≡ true) (r .3) (r .0))
 
   pub levels-built : LevelsFit (c .k)
-  levels-built = levels-fit (c .k) (build-passed c unrefused .levels-good)
-
-  level-built : levelOf (c .items) (build c .levels) (c .k) ≡ levelOf (c .items) (indexFor c .levels) (c .k)
-  unfolding buildTables indexFor builtIndex front graphOf
-  level-built =
-      let g = graphOf (c .items) (c .labels) (c .edges) in
-      ap (λ (e : BuildEnd). levelOf (c .items) (e .levels) (c .k)) worked
-      ∙ level-front (c .items) (builtLevels rule g (c .k)) (drop (length (builtLevels rule g (c .k))) (c .levels)) (c .k) (omega (arith, levels-size rule g (c .k)))
-
-  entries-built : take (2 * m) (build c .entries) ≡ take (2 * m) (indexFor c .entries)
-  unfolding buildTables front
-  entries-built =
-      ap (λ (e : BuildEnd). take (2 * m) (e .entries)) worked
-      ∙ (ap (λ (b : Bool). take (2 * m) (cond b (front (indexFor c .entries) (c .entries)) (c .entries))) (counted .0)
-      ∙ take-append-le (2 * m) (indexFor c .entries) (drop (length (indexFor c .entries)) (c .entries)) (omega (arith, counted .1)))
+  levels-built = levels-fit (c .k) (build-passed c (unrefused c a p m done) .levels-good)
 
 result-by : (c d : BuildCall) (v : Verdict) → indexFor c ≡ indexFor d → length (c .entries) ≡ length (d .entries) → buildAfter c v .result ≡ buildAfter d v .result
 unfolding buildAfter buildTables buildNothing
@@ -152,11 +110,11 @@ module _ (p : Progress) (edges levels entries : List ℕ) where
 
         level-same : levelOf (p .items) (build call .levels) (p .k) ≡ levelOf (p .items) (build own .levels) (p .k)
         unfolding buildCall callOf
-        level-same =
-            level-built call a b m here ∙ (ap (λ (x : Index). levelOf (p .items) (x .levels) (p .k)) same-index ∙ sym (level-built own a b m there))
+        level-same = sym (level-is-built call a b m here (p .k) (omega arith)) ∙ level-is-built own a b m there (p .k) (omega arith)
 
         entries-same : take (2 * m) (build call .entries) ≡ take (2 * m) (build own .entries)
-        entries-same = entries-built call a b m here ∙ (ap (λ (x : Index). take (2 * m) (x .entries)) same-index ∙ sym (entries-built own a b m there))
+        unfolding buildCall callOf
+        entries-same = entries-cut call a b m here ∙ sym (entries-cut own a b m there)
 
         entries-few : 2 * m ≤ 4096
         unfolding callOf

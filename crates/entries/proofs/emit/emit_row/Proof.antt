@@ -6,10 +6,11 @@ use native.Mathlib.Omega.{arith}
 use borrow.Author.Needs.{needs}
 use lib.ListN.{length}
 use Rattle.relations.specs.Relations.{Slot}
+use Rattle.rules.proofs.Laws.Listing.{count-le}
 use Rattle.rules.proofs.Laws.Places.{place-lt, row-fits, square-le}
 use Rattle.entries.specs.Entries.{Went, Firsts, isHit, entriesRow}
 use Rattle.entries.proofs.Laws.Went as went
-use Rattle.entries.proofs.Laws.Hits.{count-le, row-counted}
+use Rattle.entries.proofs.Laws.Hits.{row-counted}
 use Rattle.entries.proofs.Laws.Emitting as emitting
 use Rattle.entries.proofs.emit.emit_row.Statement.{statement}
 use Rattle.entries.proofs.emit.emit_row.Tie as tie
@@ -30,7 +31,7 @@ row c = row-fits (c .args .n) (c .pre .0)
 few : (c : tie.After-count-row Inv-loop μ-loop) → c .count-row .result ≤ c .before .before .before .before .before .before .args .n
 few c =
     let a = c .before .before .before .before .before .before in
-    rw (c .count-row .ensures) (count-le (a .args .n) (isHit (a .args .area .now) (a .args .from + a .args .v * a .args .n) (8 * (a .args .n * a .args .n) + a .args .v * a .args .n) (a .args .l)))
+    rw (c .count-row .ensures) (count-le (isHit (a .args .area .now) (a .args .from + a .args .v * a .args .n) (8 * (a .args .n * a .args .n) + a .args .v * a .args .n) (a .args .l)) (a .args .n))
 
 cell : (c : tie.In-loop Inv-loop μ-loop) → c .before .before .before .before .before .before .before .args .v * c .before .before .before .before .before .before .before .args .n + c .before .loop .u < c .before .before .before .before .before .before .before .args .n * c .before .before .before .before .before .before .before .args .n
 cell c = place-lt (c .before .before .before .before .before .before .before .args .n) _ _ (c .before .before .before .before .before .before .before .pre .0) (c .loop-test .taken)

@@ -1,6 +1,6 @@
 -- `lines::feeding::advance` meets its contract: what was printed, and the rest of the input fed to the machine, is what it was to be.
 use Prim.Native.Nat.{_-_}
-use mathlib.Core.Path.{_≡_, refl, sym, _∙_}
+use mathlib.Core.Path.{refl, sym, _∙_}
 use mathlib.Core.Bool.{true≢false}
 use native.Mathlib.Omega.{arith}
 use borrow.Author.Needs.{needs}
