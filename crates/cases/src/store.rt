@@ -2,12 +2,12 @@
 // at a place of its own, with as much room as it may need.
 use crate::fronts;
 
-// Where the numbers stand that an entry takes: items, labels and k, or the class.
+// Where the numbers stand that an entry takes.
 pub const FIRST: usize = 8;
 
-pub const SECOND: usize = 9;
+const SECOND: usize = 9;
 
-pub const THIRD: usize = 10;
+const THIRD: usize = 10;
 
 // Where a list begins: behind the room of the one before.
 pub fn place_of(list: usize) -> u32 {
@@ -23,6 +23,21 @@ pub fn number(store: &[u32], at: usize) -> u32 {
         return 0;
     }
     store[at]
+}
+
+// The numbers that an entry takes, in their order; pairs of a class takes the class alone.
+pub struct Sizes {
+    pub items: u32,
+    pub labels: u32,
+    pub k: u32,
+}
+
+pub fn sizes_of(store: &[u32]) -> Sizes {
+    Sizes {
+        items: number(store, FIRST),
+        labels: number(store, SECOND),
+        k: number(store, THIRD),
+    }
 }
 
 pub fn put(store: &mut [u32], at: usize, x: u32) {
@@ -55,7 +70,7 @@ fn numbers_mut(store: &mut [u32], list: usize) -> &mut [u32] {
 }
 
 // Copies a list to the front of another.
-pub fn copy(from: &[u32], to: &mut [u32]) {
+fn copy(from: &[u32], to: &mut [u32]) {
     let mut i: usize = 0;
     while i < from.len() {
         put(to, i, from[i]);

@@ -12,19 +12,34 @@ fn call(
     answers: &mut [u32],
     area: &mut [u8],
 ) -> Answered {
-    let items = store::number(store, store::FIRST);
-    let labels = store::number(store, store::SECOND);
+    let sizes = store::sizes_of(store);
     if letter == b'D' {
         let edges = store::numbers(store, forms::EDGES);
-        return index::direct(items, labels, edges, tokens, answers, area);
+        return index::direct(sizes.items, sizes.labels, edges, tokens, answers, area);
     }
     let table = store::numbers(store, forms::STARTS);
     let entries = store::numbers(store, forms::ENTRIES);
     if letter == b'S' {
-        return index::stored(items, labels, table, entries, tokens, answers, area);
+        return index::stored(
+            sizes.items,
+            sizes.labels,
+            table,
+            entries,
+            tokens,
+            answers,
+            area,
+        );
     }
-    let k = store::number(store, store::THIRD);
-    index::class_answer(items, labels, k, table, entries, tokens, answers, area)
+    index::class_answer(
+        sizes.items,
+        sizes.labels,
+        sizes.k,
+        table,
+        entries,
+        tokens,
+        answers,
+        area,
+    )
 }
 
 fn answer_with(

@@ -4,10 +4,11 @@ use cases::store;
 use rules::Report;
 
 pub fn check(store: &[u32], area: &mut [u8]) -> Report {
+    let sizes = store::sizes_of(store);
     let checked = index::check(
-        store::number(store, store::FIRST),
-        store::number(store, store::SECOND),
-        store::number(store, store::THIRD),
+        sizes.items,
+        sizes.labels,
+        sizes.k,
         store::numbers(store, forms::EDGES),
         store::numbers(store, forms::LEVELS),
         store::numbers(store, forms::STARTS),
@@ -33,10 +34,11 @@ fn build_with(
     area: &mut [u8],
     store: &mut [u32],
 ) -> Report {
+    let sizes = store::sizes_of(store);
     let built = index::build(
-        store::number(store, store::FIRST),
-        store::number(store, store::SECOND),
-        store::number(store, store::THIRD),
+        sizes.items,
+        sizes.labels,
+        sizes.k,
         store::numbers(store, forms::EDGES),
         levels,
         starts,
