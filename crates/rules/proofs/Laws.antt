@@ -28,6 +28,7 @@ pub mod Sound
 pub mod ClassAnswer
 pub mod ClassLists
 pub mod Walks
+pub mod Tokens
 pub mod Reading
 pub mod Scanner
 pub mod Postfix

@@ -1,4 +1,3 @@
-pub mod Tokens
 pub mod Waiting
 pub mod Reading
 pub mod Diameters

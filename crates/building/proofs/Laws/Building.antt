@@ -30,10 +30,10 @@ use Rattle.lists.specs.Listing.{Listing, Listed}
 use Rattle.sorting.proofs.Laws.Sorting.{upTo-le}
 use Rattle.sorting.proofs.Laws.Numbers.{at-most, max-few}
 use Rattle.rules.specs.Calls.{buildEnd}
+use Rattle.rules.proofs.Laws.Places.{square-le}
 use Rattle.top.specs.Tables.{Standing, ListsStored}
 use Rattle.building.specs.Building.{EndsAs, ListsReady, ListsWritten}
 use Rattle.top.proofs.Laws.Fronts.{front-in, zeroed-past}
-use Rattle.top.proofs.Laws.Counts.{square-small}
 use Rattle.top.proofs.Laws.Edges.{edges-fit, edges-inside}
 use Rattle.top.proofs.Laws.Top.{accepted-contiguous}
 
@@ -59,7 +59,7 @@ module _ (n labels k classes : ℕ) (edges t starts order area : List ℕ) (r : 
   pub fills : Fills t classes starts order
   fills =
       record {
-        small = omega (arith, s .square, square-small n (s .few-items));
+        small = omega (arith, s .square, square-le (s .few-items));
         most = subst (AtMost t) (sym (r .largest)) (at-most t);
         room = omega (arith, few-classes, r .starts-room);
         places = omega (arith, upTo-le t classes, s .square, r .order-room);

@@ -33,10 +33,11 @@ use Rattle.sorting.proofs.Laws.Difference.{difference-is}
 use Rattle.sorting.proofs.Laws.Numbers.{max-few}
 use Rattle.sorting.proofs.Laws.Sorting.{upTo-le}
 use Rattle.rules.specs.Calls.{checkEnd}
+use Rattle.rules.proofs.Laws.Places.{square-le}
 use Rattle.top.specs.Tables.{Standing, ListsStored}
 use Rattle.checking.specs.Checking.{listsVerdict}
 use Rattle.top.proofs.Laws.Fronts.{cleared}
-use Rattle.top.proofs.Laws.Counts.{square-small, few-entries}
+use Rattle.top.proofs.Laws.Counts.{few-entries}
 use Rattle.top.proofs.Laws.Edges.{edges-fit, edges-inside}
 use Rattle.top.proofs.Laws.Top.{accepted-contiguous}
 
@@ -87,7 +88,7 @@ module _ (n labels k : ℕ) (edges t area : List ℕ) (r : ListsStored n labels 
 
   module _ (classes pairs first second : ℕ) (starts order : List ℕ) (found : Matches t classes pairs first second starts order) where
     pub few-classes : classes ≤ 16384
-    few-classes = omega (arith, found .classes-of, max-few t (r .numbered), r .square, square-small n (r .few-items))
+    few-classes = omega (arith, found .classes-of, max-few t (r .numbered), r .square, square-le (r .few-items))
 
     pub starts-many : classes + 1 ≡ length (startsOf t)
     unfolding startsOf
@@ -99,7 +100,7 @@ module _ (n labels k : ℕ) (edges t area : List ℕ) (r : ListsStored n labels 
     pub second-small : second < 4294967296
     unfolding orderOf
     second-small =
-        omega (arith, found .order-of, difference-is (orderOf t) order .left, upTo-le t (maxOf t), r .square, square-small n (r .few-items))
+        omega (arith, found .order-of, difference-is (orderOf t) order .left, upTo-le t (maxOf t), r .square, square-le (r .few-items))
 
   module _ (many third : ℕ) (entries : List ℕ) (compared : Compared many third (entriesOf (graphOf n labels edges) k t) entries) where
     abbrev es : List ℕ

@@ -16,6 +16,7 @@ use Rattle.rules.specs.Query.{Atom, identity, step, Query, atom, join, b
 use Rattle.rules.specs.Reading.{tokenOf, Reading, fault, asks, push, fold2, act, end, readFrom, readTokens, spell, tokens, waiting}
 use Rattle.rules.specs.Published.{AtomFormed, WellFormed}
 use Rattle.rules.proofs.Laws.Tests.{order}
+use Rattle.rules.proofs.Laws.Tokens.{token-identity, token-step, token-join, token-conjunction}
 use Rattle.rules.proofs.Laws.Reading.{fault-asks, asks-inj}
 
 -- how reading goes on from the tokens of q: behind them with q waiting, or it is refused with 8 or 10 at one of them
@@ -31,33 +32,17 @@ tokens-some (join p q) = rw length-append (omega (arith, tokens-some p))
 tokens-some (both p q) = rw length-append (omega (arith, tokens-some p))
 
 module _ (l : ℕ) (few : l ≤ 8) where
-  token-step : (s : ℕ) → 0 < s → s ≤ 2 * l → tokenOf l s ≡ Step s
-  unfolding tokenOf
-  token-step s p h = rw (ne-eqb s 0 (λ q. omega arith), le-leb s (2 * l) h)
-
-  token-zero : tokenOf l 0 ≡ Identity
-  unfolding tokenOf
-  token-zero = refl
-
-  token-join : tokenOf l 32 ≡ Join
-  unfolding tokenOf
-  token-join = rw (lt-leb 32 (2 * l) (omega arith))
-
-  token-both : tokenOf l 33 ≡ Conjunction
-  unfolding tokenOf
-  token-both = rw (lt-leb 33 (2 * l) (omega arith))
-
   read-atom : (a : Atom) → AtomFormed l a → (rest : List ℕ) (at : ℕ) (ws : List Query) → length ws < 8
       → readFrom l (spell a ∷ rest) at ws ≡ readFrom l rest (suc at) (atom a ∷ ws)
   unfolding readFrom act push spell AtomFormed
-  read-atom identity w rest at ws h = rw (token-zero, lt-ltb (length ws) 8 h)
-  read-atom (step s) w rest at ws h = rw (token-step s (w .0) (w .1), lt-ltb (length ws) 8 h)
+  read-atom identity w rest at ws h = rw (token-identity l, lt-ltb (length ws) 8 h)
+  read-atom (step s) w rest at ws h = rw (token-step l s (w .0) (w .1), lt-ltb (length ws) 8 h)
 
   read-ninth : (a : Atom) → AtomFormed l a → (rest : List ℕ) (at : ℕ) (ws : List Query) → 8 ≤ length ws
       → readFrom l (spell a ∷ rest) at ws ≡ fault (NinthOperand at)
   unfolding readFrom act push spell AtomFormed
-  read-ninth identity w rest at ws h = rw (token-zero, le-ltb (length ws) 8 h)
-  read-ninth (step s) w rest at ws h = rw (token-step s (w .0) (w .1), le-ltb (length ws) 8 h)
+  read-ninth identity w rest at ws h = rw (token-identity l, le-ltb (length ws) 8 h)
+  read-ninth (step s) w rest at ws h = rw (token-step l s (w .0) (w .1), le-ltb (length ws) 8 h)
 
   -- a step of a label that is not there
   read-unknown : (s : ℕ) → 2 * l < s → s ≤ 16 → (rest : List ℕ) (at : ℕ) (ws : List Query) → readFrom l (s ∷ rest) at ws ≡ fault (UnknownAt at)
@@ -67,11 +52,11 @@ module _ (l : ℕ) (few : l ≤ 8) where
 
   pub read-join : (p q : Query) (rest : List ℕ) (at : ℕ) (ws : List Query) → readFrom l (32 ∷ rest) at (q ∷ (p ∷ ws)) ≡ readFrom l rest (suc at) (join p q ∷ ws)
   unfolding readFrom act fold2
-  read-join p q rest at ws = rw token-join
+  read-join p q rest at ws = rw (token-join l few)
 
   pub read-both : (p q : Query) (rest : List ℕ) (at : ℕ) (ws : List Query) → readFrom l (33 ∷ rest) at (q ∷ (p ∷ ws)) ≡ readFrom l rest (suc at) (both p q ∷ ws)
   unfolding readFrom act fold2
-  read-both p q rest at ws = rw token-both
+  read-both p q rest at ws = rw (token-conjunction l few)
 
   back-known : (a : Atom) → AtomFormed l a → (rest : List ℕ) (at : ℕ) (ws : List Query) → ReadBack l (atom a) rest at ws (readFrom l (spell a ∷ rest) at ws)
   unfolding waiting tokens WellFormed

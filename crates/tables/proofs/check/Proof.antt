@@ -7,7 +7,7 @@ use Rattle.rules.specs.Outcomes.{checkRefusal, checkGraph}
 use Rattle.rules.proofs.Laws.Calls.{passed}
 use Rattle.rules.specs.Calls.{checkCall}
 use Rattle.refusals.proofs.Laws.Links.{link-good, link-refused}
-use Rattle.top.proofs.Laws.Counts.{square-small}
+use Rattle.rules.proofs.Laws.Places.{square-le}
 use Rattle.checking.proofs.Laws.Checking.{few-items, checks-worked, checks-refused}
 use Rattle.tables.proofs.check.Statement.{statement}
 use Rattle.tables.proofs.check.Tie as tie
@@ -42,10 +42,10 @@ check-tables-requires : tie.Need-check-tables-requires
 check-tables-requires c κs = unrefused (c .before)
 
 mul-clear : tie.Need-mul-clear
-mul-clear c = omega (arith, square-small _ (few-items _ (unrefused (c .before .before .before .before .before))))
+mul-clear c = omega (arith, square-le (few-items _ (unrefused (c .before .before .before .before .before))))
 
 mul-clear-2 : tie.Need-mul-clear-2
-mul-clear-2 c = omega (arith, square-small _ (few-items _ (unrefused (c .before .before .before .before .before))))
+mul-clear-2 c = omega (arith, square-le (few-items _ (unrefused (c .before .before .before .before .before))))
 
 clear-requires : tie.Need-clear-requires
 clear-requires c κs = omega (arith, passed _ (unrefused (c .before .before .before .before .before)) .area, c .before .before .before .check-tables .ensures .1 .size)

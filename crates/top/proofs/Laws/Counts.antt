@@ -10,13 +10,10 @@ use Rattle.rules.specs.Levels.{maxOf}
 use Rattle.rules.specs.Lists.{codeFrom, entriesOf}
 use Rattle.rules.specs.Published.{Symbols, end, symbol}
 use Rattle.rules.proofs.Laws.Entries.{Rising, none, more, least, code-range, up-rising}
+use Rattle.rules.proofs.Laws.Places.{square-le}
 use Rattle.sorting.specs.Sort.{Contiguous}
 use Rattle.sorting.proofs.Laws.Numbers.{max-few}
 use Rattle.top.specs.Tables.{ListsStored}
-
--- n·n positions of at most 128 items
-pub square-small : (n : ℕ) → n ≤ 128 → n * n ≤ 16384
-square-small n h = omega (arith, mul-le-mul {n₁ = n} {m₁ = n} {n₂ = 128} {m₂ = 128} h h)
 
 -- an entry takes two numbers, and each has a key of its own
 rising-few : {m a b : ℕ} {l : List ℕ} → Rising m a b l → (length l % 2 ≡ 0) × (length l / 2 + a ≤ b)
@@ -47,7 +44,7 @@ pub entries-few : (g : Graph) (k n : ℕ) (t : List ℕ) → g .labels ≤ 8 →
 unfolding entriesOf
 entries-few g k n t l h few size whole =
     let c = maxOf t in
-    let small : suc c ≤ 16385 = omega (arith, max-few t whole, size, square-small n few) in
+    let small : suc c ≤ 16385 = omega (arith, max-few t whole, size, square-le few) in
     let r = rising-few (up-rising g t l c k) in
     let most : least k 1 * suc c ≤ 88741 * 16385 = mul-le-mul {n₁ = least k 1} {m₁ = suc c} {n₂ = 88741} {m₂ = 16385} (least-few k h) small in
     record { even = r .0; few = omega (arith, r .1, most) }

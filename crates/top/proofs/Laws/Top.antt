@@ -14,7 +14,7 @@ use Rattle.rules.proofs.Laws.Accepted.{right-at}
 use Rattle.rules.proofs.Laws.Slices.{pred-is, take-from}
 use Rattle.sorting.specs.Sort.{Contiguous}
 use Rattle.top.specs.Tables.{Standing}
-use Rattle.top.proofs.Laws.Counts.{square-small}
+use Rattle.rules.proofs.Laws.Places.{square-le}
 
 pub level-part : (n k : ℕ) (levels : List ℕ) → take (k * (n * n) - (k - 1) * (n * n)) (drop ((k - 1) * (n * n)) levels) ≡ levelOf n levels k
 unfolding levelOf
@@ -26,7 +26,7 @@ level-part n k levels =
 pub part-small : (n k : ℕ) (levels : List ℕ) → Standing n k levels → ((k - 1) * (n * n) ≤ k * (n * n)) × (k * (n * n) ≤ 65536)
 part-small n k levels s = (
   mul-le-mul-right {m = k - 1} {n = k} (n * n) (omega arith),
-  mul-le-mul {n₁ = k} {m₁ = n * n} {n₂ = 4} {m₂ = 16384} (s .few-levels) (square-small n (s .few-items)),
+  mul-le-mul {n₁ = k} {m₁ = n * n} {n₂ = 4} {m₂ = 16384} (s .few-levels) (square-le (s .few-items)),
 )
 
 pub accepted-contiguous : (ρ : Rule) (g : Graph) (i : ℕ) (T : ℕ → List ℕ) → LevelAccepted ρ g i T → length (T i) ≡ g .items * g .items → Contiguous (T i)

@@ -1,7 +1,7 @@
 -- The part from (k-1)·n·n to k·n·n lies among the levels and is level k by definition (`level-part`).
 use native.Mathlib.Omega.{arith}
 use borrow.Author.Needs.{needs}
-use Rattle.top.proofs.Laws.Counts.{square-small}
+use Rattle.rules.proofs.Laws.Places.{square-le}
 use Rattle.top.proofs.Laws.Top.{level-part, part-small}
 use Rattle.top.proofs.top_of.Statement.{statement}
 use Rattle.top.proofs.top_of.Tie as tie
@@ -10,7 +10,7 @@ sub-from : tie.Need-sub-from
 sub-from c = search needs
 
 mul-from : tie.Need-mul-from
-mul-from c = omega (arith, square-small (c .args .n) (c .pre .few-items))
+mul-from c = omega (arith, square-le (c .pre .few-items))
 
 mul-from-2 : tie.Need-mul-from-2
 mul-from-2 c =
@@ -18,7 +18,7 @@ mul-from-2 c =
     omega (arith, s .0, s .1)
 
 mul-to : tie.Need-mul-to
-mul-to c = omega (arith, square-small (c .args .n) (c .pre .few-items))
+mul-to c = omega (arith, square-le (c .pre .few-items))
 
 mul-to-2 : tie.Need-mul-to-2
 mul-to-2 c =
