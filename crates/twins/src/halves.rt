@@ -58,12 +58,12 @@ pub fn halves(
             m = w;
             continue;
         }
-        let a = number_at(n, levels, first, v, m);
-        let b = number_at(n, levels, second, m, u);
         m += 1;
+        let b = number_at(n, levels, second, w, u);
         if b == 0 {
             continue;
         }
+        let a = number_at(n, levels, first, v, w);
         if a == 0 {
             continue;
         }

@@ -40,20 +40,14 @@ loop-again c =
     let l = f .before .before .loop in
     (ahead f .few, halves-skip _ _ _ _ _ _ _ _ _ _ _ (l .inv .1) _ (ahead f), l .inv .2)
 
+add-m : tie.Need-add-m Inv-loop μ-loop
+add-m c = omega arith
+
 number-at-requires : tie.Need-number-at-requires Inv-loop μ-loop
 number-at-requires c κs =
     let t = c .before .before in
     let a = t .before .before .before .before .before in
-    (a .pre .0 .first-stands, record { first = a .pre .1 .first; second = t .loop-test .taken })
-
-number-at-requires-2 : tie.Need-number-at-requires-2 Inv-loop μ-loop
-number-at-requires-2 c κs =
-    let t = c .before .before .before in
-    let a = t .before .before .before .before .before in
-    (a .pre .0 .second-stands, record { first = t .loop-test .taken; second = a .pre .1 .second })
-
-add-m : tie.Need-add-m Inv-loop μ-loop
-add-m c = omega arith
+    (a .pre .0 .second-stands, record { first = omega (arith, c .if1 .left, t .loop-test .taken); second = a .pre .1 .second })
 
 loop-less-2 : tie.Need-loop-less-2 Inv-loop μ-loop
 loop-less-2 c = omega arith
@@ -61,23 +55,32 @@ loop-less-2 c = omega arith
 loop-again-2 : tie.Need-loop-again-2 Inv-loop μ-loop
 loop-again-2 c =
     let b = c .before in
-    let l = b .before .before .before .before .before .loop in
-    (omega arith, halves-second _ _ _ _ _ _ _ _ _ _ _ (l .inv .1) (b .number-at2 .ensures) (c .if2 .taken), l .inv .2)
+    let e = b .before in
+    let l = e .before .before .before .loop in
+    (omega arith, halves-second _ _ _ _ _ _ _ _ _ _ _ (l .inv .1) (rw (e .if1 .left) at (b .number-at .ensures)) (c .if2 .taken), l .inv .2)
+
+number-at-requires-2 : tie.Need-number-at-requires-2 Inv-loop μ-loop
+number-at-requires-2 c κs =
+    let e = c .before .before in
+    let t = e .before .before in
+    let a = t .before .before .before .before .before in
+    (a .pre .0 .first-stands, record { first = a .pre .1 .first; second = omega (arith, e .if1 .left, t .loop-test .taken) })
 
 loop-less-3 : tie.Need-loop-less-3 Inv-loop μ-loop
 loop-less-3 c = omega arith
 
 loop-again-3 : tie.Need-loop-again-3 Inv-loop μ-loop
 loop-again-3 c =
-    let a = c .before .before .before in
-    let l = a .before .before .before .before .loop in
-    (omega arith, halves-first _ _ _ _ _ _ _ _ _ _ _ (l .inv .1) (a .number-at .ensures) (c .if3 .taken), l .inv .2)
+    let a = c .before in
+    let e = a .before .before .before in
+    let l = e .before .before .before .loop in
+    (omega arith, halves-first _ _ _ _ _ _ _ _ _ _ _ (l .inv .1) (rw (e .if1 .left) at (a .number-at2 .ensures)) (c .if3 .taken), l .inv .2)
 
 midpoint-of-requires : tie.Need-midpoint-of-requires Inv-loop μ-loop
 midpoint-of-requires c κs =
-    let n = c .before .before .before in
-    let p = n .before .before .before .before .before .before .before .before .pre .0 in
-    (p .few, rw (n .number-at .ensures) (p .small _ _))
+    let a = c .before in
+    let p = a .before .before .before .before .before .before .before .before .before .before .pre .0 in
+    (p .few, rw (a .number-at2 .ensures) (p .small _ _))
 
 is-last-requires : tie.Need-is-last-requires Inv-loop μ-loop
 is-last-requires c κs =
@@ -90,11 +93,13 @@ loop-less-4 c = omega arith
 loop-again-4 : tie.Need-loop-again-4 Inv-loop μ-loop
 loop-again-4 c =
     let p = c .before .before .before in
-    let b = p .before .before .before in
-    let a = b .before in
-    let l = a .before .before .before .before .loop in (
+    let a = p .before .before in
+    let b = a .before .before in
+    let e = b .before in
+    let l = e .before .before .before .loop in (
       omega arith,
-      halves-old _ _ _ _ _ _ _ _ _ _ _ (l .inv .1) (a .number-at .ensures) (b .number-at2 .ensures) (p .midpoint-of .ensures) (c .before .is-last .ensures (c .if4 .taken)),
+      halves-old _ _ _ _ _ _ _ _ _ _ _ (l .inv .1) (rw (e .if1 .left) at (a .number-at2 .ensures)) (rw (e .if1 .left) at (b .number-at .ensures)) (p .midpoint-of .ensures)
+          (c .before .is-last .ensures (c .if4 .taken)),
       l .inv .2,
     )
 
@@ -114,12 +119,15 @@ loop-again-5 : tie.Need-loop-again-5 Inv-loop μ-loop
 loop-again-5 c =
     let p = c .before .before .before in
     let e3 = p .before in
-    let b = e3 .before .before in
-    let a = b .before in
-    let t = a .before .before .before in
+    let a = e3 .before in
+    let e2 = a .before in
+    let b = e2 .before in
+    let e = b .before in
+    let t = e .before .before in
     let l = t .before .loop in (
       omega arith,
-      halves-new _ _ _ _ _ _ _ _ _ _ _ (l .inv .1) (a .number-at .ensures) (b .number-at2 .ensures) (p .midpoint-of .ensures) (e3 .if3 .left) (e3 .before .if2 .left) (t .loop-test .taken),
+      halves-new _ _ _ _ _ _ _ _ _ _ _ (l .inv .1) (rw (e .if1 .left) at (a .number-at2 .ensures)) (rw (e .if1 .left) at (b .number-at .ensures)) (p .midpoint-of .ensures)
+          (e3 .if3 .left) (e2 .if2 .left) (t .loop-test .taken),
       simp length-set (l .inv .2),
     )
 
@@ -142,11 +150,11 @@ halves-spec =
     next-from-requires
     loop-less
     loop-again
-    number-at-requires
-    number-at-requires-2
     add-m
+    number-at-requires
     loop-less-2
     loop-again-2
+    number-at-requires-2
     loop-less-3
     loop-again-3
     midpoint-of-requires
