@@ -153,7 +153,7 @@ fn read_numbers(input: &mut [u8], s: Source, store: &mut [u32], end: usize) -> S
     source
 }
 
-// A line behind its letter. Lists that it does not have are empty.
+// A line behind its letter.
 fn read_case(input: &mut [u8], s: Source, store: &mut [u32], form: Form) -> Source {
     let behind_numbers = read_numbers(input, s, store, store::FIRST + form.numbers as usize);
     let behind_lists = read_lists(input, behind_numbers, store, form);
@@ -173,6 +173,7 @@ pub struct Line {
     pub found: Found,
 }
 
+// Lists that the letter does not have are empty.
 fn read_form(letter: u8, input: &mut [u8], s: Source, store: &mut [u32], form: Form) -> Line {
     fill(store, 0, store::FIRST, 0);
     let source = read_case(input, s, store, form);

@@ -49,7 +49,7 @@ fn is_part(part: &[u32], list: &[u32], bounds: Bounds) -> bool {
     }
 }
 
-// What the bounds say; no entry says what stands here for another part.
+// What the bounds say; where the part is another, what no entry returns.
 fn report_part(part: &[u32], list: &[u32], bounds: Bounds) -> Report {
     if is_part(part, list, bounds) {
         return report_bounds(bounds);
@@ -70,13 +70,20 @@ pub fn pairs(store: &[u32]) -> Report {
     report_part(index::class_pairs(c, starts, order), order, bounds)
 }
 
-fn lookup_with(symbols: &mut [u8], store: &[u32]) -> Report {
+fn call_lookup(symbols: &[u8], store: &[u32]) -> Report {
     let entries = store::numbers(store, forms::ENTRIES);
     let bounds = index::lookup_bounds(symbols, entries);
     report_part(index::lookup(symbols, entries), entries, bounds)
 }
 
-pub fn lookup(store: &[u32]) -> Report {
+fn lookup_with(symbols: &mut [u8], store: &mut [u32]) -> Report {
+    let report = call_lookup(symbols, store);
+    store::keep_bytes(store, forms::TOKENS, symbols);
+    report
+}
+
+// The symbols are lent as a copy, and put back behind the call.
+pub fn lookup(store: &mut [u32]) -> Report {
     let mut symbols = [0u8; 80];
     lookup_with(
         store::fetch_bytes(store, forms::TOKENS, &mut symbols),
