@@ -1,6 +1,6 @@
 // A case: its letter says which entry is called.
 use crate::answers;
-use crate::parts;
+use crate::bounds;
 use crate::tables;
 use cases::forms;
 use cases::printing;
@@ -16,8 +16,8 @@ fn call(letter: u8, store: &mut [u32], area: &mut [u8]) -> Report {
     match letter {
         b'B' => tables::build(store, area),
         b'C' => tables::check(store, area),
-        b'P' => parts::pairs(store),
-        b'L' => parts::lookup(store),
+        b'P' => bounds::pairs(store),
+        b'L' => bounds::lookup(store),
         _ => answers::answer(letter, store, area),
     }
 }

@@ -6,7 +6,7 @@ mod answers;
 // build and check
 mod tables;
 // pairs of a class, and sequence lookup
-mod parts;
+mod bounds;
 // a case of any letter
 mod calls;
 

@@ -1,9 +1,9 @@
--- `trial::parts::is_between` is safe and ends: what is left of the part falls.
+-- `trial::bounds::is_between` is safe and ends: what is left of the part falls.
 use borrow.Author.Needs.{needs}
 use lib.ListN.{length}
 use Prim.Native.Nat.{_-_, _≤_}
-use Rattle.trial.proofs.parts.is_between.Statement.{statement}
-use Rattle.trial.proofs.parts.is_between.Tie as tie
+use Rattle.trial.proofs.bounds.is_between.Statement.{statement}
+use Rattle.trial.proofs.bounds.is_between.Tie as tie
 
 abbrev Inv-loop : tie.InvT-loop
 Inv-loop part list from to at₀ i₀ at i = i ≤ length part
