@@ -1,15 +1,5 @@
--- Laws of the chains and the numbering of a level, its check, and all levels, built or checked.
-pub mod Numbers
-pub mod Level
-pub mod Right
+-- Laws of levels that repeat, and of all levels, built or checked.
 pub mod Same
 pub mod Stack
 pub mod Built
 pub mod Repeat
-pub mod Words
-pub mod Chains
-pub mod Walk
-pub mod Taken
-pub mod Turn
-pub mod Aside
-pub mod Firsts

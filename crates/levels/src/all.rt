@@ -1,10 +1,9 @@
 // All levels, one over the other: built from the edge table, or checked against it.
-ghost use mathlib.Core.Path.{_≡_};
-ghost use Prim.Native.Nat.{ℕ, _*_, _<_, _≤_};
+ghost use Prim.Native.Nat.{_*_, _<_};
 ghost use Rattle.twins.specs.Standing.{EdgesFit};
 ghost use Rattle.levels.specs.Needs.{Room, Stacked, Judged, LevelsBuilt, LevelsChecked};
-use super::check::level_fault;
-use super::number::next_level;
+use super::over::level_fault;
+use super::over::next_level;
 use rules::Checked;
 use rules::Refusal;
 use twins::marks::mark_edges;

@@ -1,6 +1,4 @@
-// The level tables: numbering a level, checking a level, and all of them one over the other.
+// The level tables, one over the other, and levels that repeat.
 pub mod all;
-mod chains;
-pub mod check;
-pub mod number;
+mod over;
 mod repeat;

@@ -2,7 +2,7 @@
 // levels all are the same. Of a rule that looks at other levels, nothing is taken to repeat.
 ghost use mathlib.Core.Path.{_≡_};
 ghost use mathlib.Core.Bool.{true};
-ghost use Prim.Native.Nat.{ℕ, _*_, _-_, _<_};
+ghost use Prim.Native.Nat.{_*_, _-_, _<_};
 ghost use Rattle.rules.specs.Levels.{levelOf};
 ghost use Rattle.rules.specs.Writing.{put};
 ghost use Rattle.twins.specs.Standing.{Stands, base};

@@ -22,12 +22,12 @@ use Rattle.rules.proofs.Laws.Places.{row-lt, column-lt}
 use Rattle.rules.proofs.Laws.Put.{put-more, put-none}
 use Rattle.twins.specs.Marks.{markedGraph}
 use Rattle.twins.specs.Standing.{Ready, Stands, base}
-use Rattle.levels.specs.Needs.{Numbered, Faulty}
+use Rattle.numbering.specs.Needs.{Numbered, Faulty}
 use Rattle.levels.specs.Repeat.{LooksBelow, LooksAlike, Repeats, Topped}
-use Rattle.levels.proofs.Laws.Numbers.{numbering-same}
-use Rattle.levels.proofs.Laws.Level.{level-kept}
+use Rattle.numbering.proofs.Laws.Numbers.{numbering-same}
+use Rattle.numbering.proofs.Laws.Level.{level-kept}
 use Rattle.twins.proofs.Laws.Reach.{reach, reach-suc}
-use Rattle.levels.proofs.Laws.Right.{isFault, fault-no, fault-none}
+use Rattle.faults.proofs.Laws.Right.{isFault, fault-no, fault-none}
 use Rattle.levels.proofs.Laws.Stack.{kept-refl}
 use Rattle.twins.proofs.Laws.Tables.{less-one, base-next, place-get, level-length}
 

@@ -22,7 +22,7 @@ use Rattle.rules.proofs.Laws.Accepted.{first-of-lt}
 use Rattle.twins.specs.Marks.{markedEdge, markedGraph, Marked}
 use Rattle.twins.specs.Standing.{EdgesFit}
 use Rattle.twins.proofs.Laws.Marks.{label-of, leads-same, same-leads, edge-bit}
-use Rattle.levels.proofs.Laws.Numbers.{first-same, numbering-same}
+use Rattle.numbering.proofs.Laws.Numbers.{first-same, numbering-same}
 
 module _ (n labels : ℕ) (e f : ℕ → ℕ → ℕ → Bool) (few : labels ≤ 8)
     (alike : (v u l : ℕ) → v < n → u < n → l < 8 → e v u l ≡ f v u l)

@@ -26,7 +26,8 @@ use Rattle.rules.proofs.Laws.Builder.{accepted-same, written-accepted}
 use Rattle.rules.proofs.Laws.Verdict.{good-or-else, both-good, good-when}
 use Rattle.twins.specs.Marks.{markedGraph}
 use Rattle.twins.specs.Standing.{Ready, Kept, Placed, base}
-use Rattle.levels.specs.Needs.{Room, Faulty, Judged}
+use Rattle.numbering.specs.Needs.{Faulty}
+use Rattle.levels.specs.Needs.{Room, Judged}
 use Rattle.levels.specs.Repeat.{Topped}
 use Rattle.rules.proofs.Laws.Faults.{right-accepted}
 use Rattle.rules.proofs.Laws.Fronts.{front-length}
