@@ -1,6 +1,6 @@
--- P1 to P12 of document 01, as one list, over the outcomes of the entries: each holds by computation.
+-- P1 to P12 of document 01, as one list, over the outcomes of the entries: each holds by computation. The index of the document is computed once.
 use Prim.Native.Nat.{ℕ}
-use mathlib.Core.Path.{_≡_, refl}
+use mathlib.Core.Path.{_≡_, refl, ap, _∙_}
 use mathlib.Core.List.{List, [], _∷_, _++_}
 use lib.ListN.{length, take, drop, replicate}
 use Rattle.rules.specs.declared.Refusal.{Refusal}
@@ -14,8 +14,8 @@ use Rattle.rules.specs.Query.{diameter, reach, atomBy, meetsBy, answerBy
 use Rattle.rules.specs.Reading.{tokenOf, push, fold2, act, end, readFrom, readTokens}
 use Rattle.rules.specs.Levels.{numberAt, sameEnds, sameSteps, isTwin, hasTwin, twins, splitOk, agree, agreeAt, connectedAt, maxOf, firstOf, matches, nextNumber, numbering, levelOf, stack, levelOver, builtLevels, builtLevel}
 use Rattle.rules.specs.Lists.{pairsOf, orderUpTo, startsUpTo, joins, codeFrom, joinsClass, entriesFor, eachUpTo, entriesBehind, entriesUpTo, startsOf, orderOf, entriesOf}
-use Rattle.rules.specs.Verdict.{_orElse_, when, sizes, levelCount, edgeCount, badEdge, firstBad, edgesFit, room, wellRead, queryOf, withinDiameter}
-use Rattle.rules.specs.Accept.{topOf, builtIndex}
+use Rattle.rules.specs.Verdict.{good, _orElse_, when, sizes, levelCount, edgeCount, badEdge, firstBad, edgesFit, room, wellRead, queryOf, withinDiameter}
+use Rattle.rules.specs.Accept.{Index, topOf, builtIndex}
 use Rattle.rules.specs.Outcomes.{front, zeroed, BuildCall, BuildEnd, buildRefusal, buildTables, indexFor, buildAfter, build, AnswerEnd, answerAfter, DirectCall, directRefusal, directList, direct, ClassCall, classRefusal, class}
 
 -- the document's edge table: source, target, label
@@ -111,24 +111,42 @@ pub record Examples : Type 0 where
   pub P12 : build nothing ≡ record { result = Tables 0 0 0; levels = []; starts = 0 ∷ []; order = []; entries = []; area = [] }
   pub P12-identity : direct asking-nothing ≡ record { result = Answers 0; answers = []; area = [] }
 
+-- the index of the document's table, computed once for all the examples that build it
+abbrev index : Index
+index = record { items = 4; labels = 2; k = 2; levels = level1 ++ level2; starts = starts; order = order; entries = entries }
+
+built : (room : ℕ) → indexFor (building room) ≡ index
+unfolding indexFor builtIndex anyBelow allBelow firstBelow listBelow edgeIs hasEdge graphOf leads adjacent connected rule numberAt sameEnds sameSteps isTwin hasTwin twins splitOk agree agreeAt connectedAt maxOf firstOf matches nextNumber numbering levelOf stack levelOver builtLevels builtLevel pairsOf orderUpTo startsUpTo joins codeFrom joinsClass entriesFor eachUpTo entriesBehind entriesUpTo startsOf orderOf entriesOf
+built room = refl
+
+-- what build does with it
+tables : (room : ℕ) → buildRefusal (building room) ≡ good → build (building room) ≡ buildTables (building room) index
+unfolding build buildAfter
+tables room e = ap (buildAfter (building room)) e ∙ ap (buildTables (building room)) (built room)
+
+-- no items
+empty : build nothing ≡ record { result = Tables 0 0 0; levels = []; starts = 0 ∷ []; order = []; entries = []; area = [] }
+unfolding build buildRefusal buildAfter buildTables indexFor builtIndex topOf front zeroed _orElse_ when sizes levelCount edgeCount edgesFit firstBad room firstBelow tableBelow graphOf maxOf numbering levelOf stack levelOver builtLevels builtLevel orderUpTo startsUpTo entriesFor eachUpTo entriesBehind entriesUpTo startsOf orderOf entriesOf
+empty = refl
+
 pub examples : Examples
-unfolding build buildRefusal buildAfter buildTables indexFor builtIndex topOf front zeroed _orElse_ when sizes levelCount edgeCount edgesFit firstBad badEdge room anyBelow allBelow firstBelow listBelow tableBelow edgeIs hasEdge graphOf leads adjacent connected rule numberAt sameEnds sameSteps isTwin hasTwin twins splitOk agree agreeAt connectedAt maxOf firstOf matches nextNumber numbering levelOf stack levelOver builtLevels builtLevel pairsOf orderUpTo startsUpTo joins codeFrom joinsClass entriesFor eachUpTo entriesBehind entriesUpTo startsOf orderOf entriesOf direct directRefusal directList answerAfter wellRead queryOf atomBy meetsBy answerBy answerOf tokenOf push fold2 act end readFrom readTokens class classRefusal withinDiameter diameter reach
+unfolding buildRefusal buildTables topOf front zeroed _orElse_ when sizes levelCount edgeCount edgesFit firstBad badEdge room anyBelow firstBelow listBelow tableBelow edgeIs hasEdge graphOf leads maxOf levelOf direct directRefusal directList answerAfter wellRead queryOf atomBy meetsBy answerBy answerOf tokenOf push fold2 act end readFrom readTokens class classRefusal withinDiameter diameter reach
 examples =
     record {
-      P1 = refl;
-      P2 = refl;
-      P3 = refl;
-      P4 = refl;
-      P5 = refl;
-      P5-counts = refl;
+      P1 = ap (λ (e : BuildEnd). take 16 (e .levels)) (tables 28 refl);
+      P2 = ap (λ (e : BuildEnd). drop 16 (e .levels)) (tables 28 refl);
+      P3 = ap (λ (e : BuildEnd). e .starts) (tables 28 refl);
+      P4 = ap (λ (e : BuildEnd). e .order) (tables 28 refl);
+      P5 = ap (λ (e : BuildEnd). e .entries) (tables 28 refl);
+      P5-counts = ap (λ (e : BuildEnd). e .result) (tables 28 refl);
       P6 = refl;
       P7 = refl;
       P7-classes = refl;
       P8 = refl;
       P9 = refl;
       P10 = refl;
-      P11 = refl;
-      P11-odd = refl;
-      P12 = refl;
+      P11 = tables 26 refl;
+      P11-odd = tables 27 refl;
+      P12 = empty;
       P12-identity = refl;
     }
