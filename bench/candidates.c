@@ -1,6 +1,6 @@
-/* How much the search for pairs that agree does, counted level by level: a copy in C of the way in which the crates twins and levels number
-   and check a level. For each level agreements found and failed, and the candidates that the twin searches looked at. The levels that it
-   writes are compared with those of the library: a difference is an error.
+/* How much the search for pairs that agree does, counted level by level: a copy in C of the way in which the crates twins, numbering and
+   faults number and check a level. For each level agreements found and failed, and the candidates that the twin searches looked at. The
+   levels that it writes are compared with those of the library: a difference is an error.
 
      candidates GRAPH K     GRAPH is register, random, cycle or star */
 #include <stdio.h>
