@@ -1,5 +1,8 @@
 // The seven entries for C and for languages that call C: numbers and slices only, a slice being a pointer and its number of elements. Each calls
 // the entry of the crate index and hands its answer over as numbers. include/kavizhuran.h declares them.
+
+#![tactic(auto)]
+
 ghost use Rattle.std.specs.Prelude.{◌≡◌, ◌%◌, ◌^◌};
 ghost use Rattle.rules.specs.Numbers.{of_bounds};
 ghost use Rattle.rules.specs.Outcomes.{direct, stored, class};

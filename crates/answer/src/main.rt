@@ -1,6 +1,9 @@
 // Reads standard input, hands it to `lines`, and writes what `lines` leaves at the front of the output. No contract can say which bytes
 // stand in the input or come out of a write: the contracts speak of the bytes that the reads handed over, and of what stands at the front of
 // the output. At most one line, and the tables, are held.
+
+#![tactic(auto)]
+
 ghost use Rattle.std.specs.Prelude.{◌≡◌, ℕ, ◌<◌, List, length};
 ghost use Rattle.machine.specs.Machine.{feed};
 ghost use Rattle.machine.specs.Standing.{stage_of, machine_of, Stands};

@@ -1,4 +1,7 @@
 // Build's work, where nothing of 1 to 5 refuses: the levels, the lists of level k, and a clear area.
+
+#![tactic(auto)]
+
 ghost use Rattle.std.specs.Prelude.{◌≡◌};
 ghost use Rattle.rules.specs.Graph.{graph_of};
 ghost use Rattle.rules.specs.Verdict.{good};

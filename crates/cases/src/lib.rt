@@ -1,6 +1,8 @@
 // Library cases as text: a line of standard input becomes a case, and a case with what its entry returned a line of standard output
 // (docs/TRIAL.md).
 
+#![tactic(auto)]
+
 // the bytes and the numbers of the input
 pub mod source;
 // the bytes and the numbers of the output

@@ -1,4 +1,7 @@
 // Check's work, where nothing of 1 to 5 refuses: the levels, then starts, order and entries against the stored level k.
+
+#![tactic(auto)]
+
 ghost use Rattle.std.specs.Prelude.{◌≡◌, ◌*◌, ◌&&◌, not, eqb};
 ghost use Rattle.rules.specs.Graph.{graph_of};
 ghost use Rattle.rules.specs.Rule.{rule};

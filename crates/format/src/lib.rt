@@ -1,4 +1,7 @@
 // What `answer` reads and prints: what a line says, and the lines of the output.
+
+#![tactic(auto)]
+
 pub mod frames; // what a line says
 pub mod texts; // the lines of the output
 

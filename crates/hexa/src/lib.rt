@@ -1,4 +1,7 @@
 // Upper-case hexadecimal: the value of a digit, a number read at a place of a line, and a number written at a place of an output.
+
+#![tactic(auto)]
+
 ghost use Rattle.std.specs.Prelude.{◌≡◌, ◌+◌, ◌%◌, ◌≤◌, eqb, length, get_or};
 ghost use Rattle.std.proofs.lemmas.List.Edits.{sets};
 ghost use Rattle.hexa.specs.Digits.{value_of, past_end, digit_of, number_at, spelling};

@@ -1,5 +1,8 @@
 // Numbers of four digits, one behind the other, are written back in eight, a line each; then whether the line ended behind the
 // last. It does so with standard input, where a lower-case number ends it, and with a line that is numbers to its end. What it writes is compared with a stored output, so that the compiled code is run and not only proved.
+
+#![tactic(auto)]
+
 use hexa::Read;
 use libc::{STDIN_FILENO, STDOUT_FILENO};
 

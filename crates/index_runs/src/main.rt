@@ -1,5 +1,8 @@
 // Document 01's examples P6 to P10 and P12, run through the three answers. A line for each: which answer, the number and value that it
 // returns, the lent answer list afterwards, and how many bytes of the lent area are not zero.
+
+#![tactic(auto)]
+
 use rules::Answered;
 
 fn wide(x: u32) -> u64 {

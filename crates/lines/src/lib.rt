@@ -1,4 +1,7 @@
 // What `answer` does with its input: a line goes on by one turn of the machine, with the tables, and a text is printed.
+
+#![tactic(auto)]
+
 pub mod asking; // a query, answered from the stored tables
 pub mod feeding; // the bytes up to the next text, and the end of the input
 pub mod steps; // a byte, and the line that it ends

@@ -1,6 +1,6 @@
 -- The input as lines, and the lines as a form that is read from the front: refusal 18 names the first line at which nothing of the form continues.
 use Rattle.std.specs.Prelude.{ℕ, ◌*◌, List, [], ◌∷◌, ◌++◌, Bool, true, false, ◌&&◌, cond, eqb, leb, ltb, length}
-use Rattle.std.proofs.Math.Option.{Option, none, some, Option·elim}
+use Rattle.std.proofs.Math.Option.{Option, none, some, Option-elim}
 use Rattle.rules.specs.Scanner.{Scanner, Scanned, says, fault_at}
 use Rattle.format.specs.declared.Frame.{Frame}
 use Rattle.format.specs.declared.Frame.TheVariants.{Sizes, Edge, Query, Faulty}
@@ -47,7 +47,7 @@ unfoldable pub line_turn : Stage → List ℕ → Option Turn
 line_turn s line = cond (is_stopped s) (some (silent s)) (cond (well_framed s line) (some (on_line s 0 line)) none)
 
 unfoldable pub line_step : Stage → List ℕ → Option Stage
-line_step s line = Option·elim (line_turn s line) none (λ t. some t.stage)
+line_step s line = Option-elim (line_turn s line) none (λ t. some t.stage)
 
 -- the input may end behind any line, but not before the first
 unfoldable pub line_end : Stage → Option Stage
@@ -63,7 +63,7 @@ program = record { start = opening; step = line_step; end = line_end }
 -- what the lines before the first bad frame print
 unfoldable pub spoken : Stage → List (List ℕ) → List ℕ
 spoken s [] = []
-spoken s (line ∷ lines) = Option·elim (line_turn s line) [] (λ t. t.text ++ spoken t.stage lines)
+spoken s (line ∷ lines) = Option-elim (line_turn s line) [] (λ t. t.text ++ spoken t.stage lines)
 
 -- what is printed last: 18 with the line, from 1, or what the end of input asks for
 unfoldable pub closing : Scanned Stage → List ℕ

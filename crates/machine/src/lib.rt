@@ -1,4 +1,7 @@
 // The run of `answer`, and its steps that need no tables.
+
+#![tactic(auto)]
+
 pub mod bytes; // a byte that ends no line, and the state before the first
 pub mod stages; // what a line that is no query does
 

@@ -1,4 +1,7 @@
 // Pairs of a class and sequence lookup: the bounds of a part of the caller's list or the refusal, and the part itself.
+
+#![tactic(auto)]
+
 ghost use Rattle.std.specs.Prelude.{◌≡◌, ◌≤◌, length};
 ghost use Rattle.std.proofs.Math.Seq.{slice};
 ghost use Rattle.rules.specs.Lists.{code_from};

@@ -2,6 +2,9 @@
 // functions on a plain slice and numbers. The borrow checker covers no function that takes, makes or holds such a struct, so
 // each of these is proved by hand, and they are few. Whoever else reads a frame calls `field` and `ends`, whose parameters are
 // plain: such a caller is covered, and its proof has nothing of the struct in it.
+
+#![tactic(auto)]
+
 ghost use Rattle.std.specs.Prelude.{◌≡◌, ◌+◌, ◌≤◌, ◌<◌, ◌^◌, eqb, length};
 ghost use Rattle.hexa.specs.Digits.{number_at};
 

@@ -1,4 +1,7 @@
 // The paper's number and values for each answer, as document 01's table has them.
+
+#![tactic(auto)]
+
 ghost use Rattle.std.specs.Prelude.{◌≡◌};
 ghost use Rattle.rules.specs.Numbers.{report, of_refusal, of_built, of_checked, of_answered};
 

@@ -1,6 +1,6 @@
 -- A form read from the front, one symbol after the other, and the first place at which nothing of the form continues. A symbol is a byte, or a line of bytes: then a place is a line.
 use Rattle.std.specs.Prelude.{ℕ, suc, ◌≤◌, ◌<◌, ◌≡◌, List, [], ◌∷◌, ◌++◌, length, take}
-use Rattle.std.proofs.Math.Option.{Option, some, Option·elim}
+use Rattle.std.proofs.Math.Option.{Option, some, Option-elim}
 
 -- a reader of such a form: the state before the first symbol; the state behind one more, or none where nothing continues; what is said if the symbols end here, or none
 pub record Scanner (Symbol State Value : Type 0) : Type 0 where
@@ -15,8 +15,8 @@ pub data Scanned (Value : Type 0) : Type 0 where
 
 -- the symbols from a place on
 unfoldable pub scan_from : {Symbol State Value : Type 0} → Scanner Symbol State Value → State → ℕ → List Symbol → Scanned Value
-scan_from x s at [] = Option·elim (x.end s) (fault_at at) says
-scan_from x s at (b ∷ text) = Option·elim (x.step s b) (fault_at at) (λ t. scan_from x t (suc at) text)
+scan_from x s at [] = Option-elim (x.end s) (fault_at at) says
+scan_from x s at (b ∷ text) = Option-elim (x.step s b) (fault_at at) (λ t. scan_from x t (suc at) text)
 
 -- the whole text
 unfoldable pub scan : {Symbol State Value : Type 0} → Scanner Symbol State Value → List Symbol → Scanned Value

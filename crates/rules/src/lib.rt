@@ -1,5 +1,7 @@
 // What the entries of the index answer, what a token says, and an answer as the paper's numbers. The rules themselves stand in specs/.
 
+#![tactic(auto)]
+
 // A refusal: a variant for each number of document 01's table, with the values that the table names.
 #[derive(Drop)]
 pub enum Refusal {

@@ -1,4 +1,7 @@
 // Build and check.
+
+#![tactic(auto)]
+
 ghost use Rattle.rules.specs.Promises.{Builds, Checks};
 ghost use Rattle.rules.specs.Calls.{build_call, build_end, check_call, check_end};
 

@@ -2,6 +2,8 @@
 // classes, which check accepts, and one with a coarser class, which it refuses. Each list is lent with a number more than it needs, and 7
 // stands there before; so does 9 in the area. A result is document 01's number and values.
 
+#![tactic(auto)]
+
 use libc::STDOUT_FILENO;
 use rules::{Built, Report};
 

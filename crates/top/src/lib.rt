@@ -1,4 +1,7 @@
 // The level-k table among the levels.
+
+#![tactic(auto)]
+
 ghost use Rattle.std.specs.Prelude.{◌≡◌};
 ghost use Rattle.rules.specs.Levels.{level_of};
 ghost use Rattle.top.specs.Tables.{Standing};

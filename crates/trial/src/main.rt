@@ -1,6 +1,8 @@
 // Reads library cases as text from standard input, one a line, calls the entry that each names and prints what it returned and every
 // lent list afterwards (docs/TRIAL.md). Behind a line that is no case it prints `no case` and stops.
 
+#![tactic(auto)]
+
 // direct, stored and class answer
 mod answers;
 // build and check
