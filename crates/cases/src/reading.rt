@@ -6,7 +6,7 @@ use crate::source::Source;
 use crate::{forms, source, store};
 
 // A word of a list: a number, or as many as a run has.
-#[derive(Drop)]
+#[derive(Clone, Copy)]
 struct Word {
     source: Source,
     many: u32,
@@ -35,7 +35,7 @@ fn read_word(input: &mut [u8], s: Source) -> Word {
 }
 
 // The numbers from one place up to but without `next` are `value`.
-#[derive(Drop)]
+#[derive(Clone, Copy)]
 struct Stretch {
     source: Source,
     next: usize,
@@ -161,7 +161,7 @@ fn read_case(input: &mut [u8], s: Source, store: &mut [u32], form: Form) -> Sour
 }
 
 // What stands in a line.
-#[derive(Drop)]
+#[derive(Clone, Copy)]
 pub enum Found {
     Case(u8),
     NoCase,
@@ -169,7 +169,7 @@ pub enum Found {
 }
 
 // What was found, and the input behind it.
-#[derive(Drop)]
+#[derive(Clone, Copy)]
 pub struct Line {
     pub source: Source,
     pub found: Found,
