@@ -28,7 +28,7 @@ number_at-b-requires c =     (c.requires.0.second_stands, record { first = omega
 
 pub loop-m-preserved-then-b-eq0 : goal.loop-m-preserved-then-b-eq0
 loop-m-preserved-then-b-eq0 c =
-        let l = c.loop-m in
+    let l = c.loop-m in
     (omega arith, halves_second _ _ _ _ _ _ _ _ _ _ _ l.invariant.1 (rw c.if-w-m.false at c.number_at-b.ensures) c.if-b-eq0.true, l.invariant.2)
 
 pub number_at-a-requires : goal.number_at-a-requires
@@ -36,12 +36,12 @@ number_at-a-requires c =     (c.requires.0.first_stands, record { first = c.requ
 
 pub loop-m-preserved-then-a-eq0 : goal.loop-m-preserved-then-a-eq0
 loop-m-preserved-then-a-eq0 c =
-        let l = c.loop-m in
+    let l = c.loop-m in
     (omega arith, halves_first _ _ _ _ _ _ _ _ _ _ _ l.invariant.1 (rw c.if-w-m.false at c.number_at-a.ensures) c.if-a-eq0.true, l.invariant.2)
 
 pub midpoint_of-x-requires : goal.midpoint_of-x-requires
 midpoint_of-x-requires c =
-        let p = c.requires.0 in
+    let p = c.requires.0 in
     (p.few, rw c.number_at-a.ensures (p.small _ _))
 
 pub is_last-requires : goal.is_last-requires
@@ -51,7 +51,7 @@ is_last-requires c =
 
 pub loop-m-preserved-then-is_last : goal.loop-m-preserved-then-is_last
 loop-m-preserved-then-is_last c =
-        let l = c.loop-m in (
+    let l = c.loop-m in (
       omega arith,
       halves_old _ _ _ _ _ _ _ _ _ _ _ l.invariant.1 (rw c.if-w-m.false at c.number_at-a.ensures) (rw c.if-w-m.false at c.number_at-b.ensures) c.midpoint_of-x.ensures
           (c.is_last.ensures c.if-is_last.true),
@@ -69,7 +69,7 @@ overflow_add-at c = omega (arith, c.loop-m.invariant.1.few, c.loop-m.invariant.1
 
 pub loop-m-preserved : goal.loop-m-preserved
 loop-m-preserved c =
-        let l = c.loop-m in (
+    let l = c.loop-m in (
       omega arith,
       halves_new _ _ _ _ _ _ _ _ _ _ _ l.invariant.1 (rw c.if-w-m.false at c.number_at-a.ensures) (rw c.if-w-m.false at c.number_at-b.ensures) c.midpoint_of-x.ensures
           c.if-a-eq0.false c.if-b-eq0.false c.loop-m-test.true,

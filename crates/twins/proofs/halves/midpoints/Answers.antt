@@ -23,7 +23,7 @@ second_level-second-requires c = omega (arith, c.loop-c-test.true, c.splits-coun
 
 pub halves-k-requires : goal.halves-k-requires
 halves-k-requires c =
-        let p = c.requires in
+    let p = c.requires in
     let few = c.splits-count.ensures.1 p.0.short in (
       searchable _ _ _ _ p.0 p.3 _ c.splits-count.ensures.0 c.splits-count.ensures.1 c.loop-c-test.true c.first_level-first.ensures c.second_level-second.ensures,
       record { first = row_lt _ _ p.1; second = column_lt _ _ p.1 },
@@ -32,7 +32,7 @@ halves-k-requires c =
 
 pub loop-c-preserved : goal.loop-c-preserved
 loop-c-preserved c =
-        let p = c.requires in (
+    let p = c.requires in (
       omega arith,
       listing_more _ _ _ _ _ _ _ _ _ _ p.0.few c.first_level-first.ensures c.second_level-second.ensures c.loop-c.invariant.1 c.halves-k.ensures,
       search rules,
@@ -43,5 +43,5 @@ shape_of-list c = c.loop-c.invariant.2
 
 pub returns : goal.returns
 returns c =
-        let p = c.requires in
+    let p = c.requires in
     listing_done _ _ _ _ _ _ _ _ _ p.0 c.splits-count.ensures.0 c.splits-count.ensures.1 c.loop-c.invariant.0 c.loop-c-test.false (omega (arith, c.loop-c.invariant.2, p.2)) c.loop-c.invariant.1

@@ -12,7 +12,7 @@ add_marks-requires c =     (c.requires.0, cleared _ _ _ c.clear_marks.ensures c.
 
 pub returns : goal.returns
 returns c =
-        let m = c.add_marks.ensures in
+    let m = c.add_marks.ensures in
     let n = c.args.n in (
       m.0,
       m.1 ∙ ap (λ (z : List ℕ). drop (n * n) z) c.clear_marks.ensures ∙ drop_fill_at (n * n) _ 0 (n * n) _ (omega arith),

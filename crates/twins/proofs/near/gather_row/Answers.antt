@@ -18,7 +18,7 @@ add_row-requires c =     (one_stands _ _ _ c.requires.0, c.loop-m-test.true, c.l
 
 pub loop-m-preserved : goal.loop-m-preserved
 loop-m-preserved c =
-        let l = c.loop-m in
+    let l = c.loop-m in
     (omega arith, reached_more _ _ _ _ _ c.number_at.ensures _ l.invariant.1 c.if-number_at-eq0.false _ c.add_row.ensures, rw c.add_row.ensures (length_fill _ _ _ _ ∙ l.invariant.2))
 
 pub shape_of-row : goal.shape_of-row

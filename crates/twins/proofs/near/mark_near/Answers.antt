@@ -10,12 +10,12 @@ loop-v-init c = (omega arith, rows_none _ _ _ _)
 
 pub near_row-requires : goal.near_row-requires
 near_row-requires c =
-        let e = c.loop-v.invariant.1 in
+    let e = c.loop-v.invariant.1 in
     (ready_area _ _ _ _ _ c.requires (rows_marks _ _ _ _ _ e) (rows_size _ _ _ _ _ e), c.loop-v-test.true)
 
 pub loop-v-preserved : goal.loop-v-preserved
 loop-v-preserved c =
-        let l = c.loop-v in
+    let l = c.loop-v in
     (omega arith, rows_turn _ _ _ _ _ l.invariant.1 _ c.near_row.ensures)
 
 pub shape_of-area : goal.shape_of-area

@@ -9,11 +9,11 @@ returns-then-splits-eq0 c =     laid_none _ _ _ _ c.splits.ensures.0 c.if-splits
 
 pub skip_rows-requires : goal.skip_rows-requires
 skip_rows-requires c =
-        let r = c.requires in
+    let r = c.requires in
     let h = split_above _ c.splits.ensures.0 c.if-splits-eq0.false in
     (r.few, below_stands _ _ _ _ r _ (omega (arith, h)) (omega (arith, h)), r.area_room)
 
 pub returns : goal.returns
 returns c =
-        let r = c.requires in
+    let r = c.requires in
     (laid_some _ _ _ _ r _ c.skip_rows.ensures.0, c.skip_rows.ensures.1)

@@ -36,7 +36,7 @@ loop-m-smaller c = omega (arith, c.loop-m-test.true)
 
 pub loop-m-preserved : goal.loop-m-preserved
 loop-m-preserved c =
-        let i = c.loop-m.invariant in
+    let i = c.loop-m.invariant in
     let d = next_down _ _ _ _ _ c.loop-m-test.true i.0 i.1 c.number_at.ensures c.nearer-next.ensures in
     (omega (arith, i.0), d, from_down _ _ _ _ _ _ _ c.loop-m-test.true i.0 c.requires.3 c.requires.2 i.2 d)
 
