@@ -12,6 +12,6 @@ returns c =
     record {
       result =
           c.hand_bounds.ensures
-          ∙ ap (λ (c{-PLACE After-class_bounds-} : Bounds). handed (of_bounds (narrowed c{-PLACE After-class_bounds-}))) c.class_bounds.ensures.bounds
-          ∙ ap (λ (c{-PLACE After-class_bounds-} : Bounds). handed (of_bounds c{-PLACE After-class_bounds-})) (class_narrowed _ c.args.starts.now _ (λ i. (known i).fits));
+          ∙ ap (λ (b : Bounds). handed (of_bounds (narrowed b))) c.class_bounds.ensures.bounds
+          ∙ ap (λ (b : Bounds). handed (of_bounds b)) (class_narrowed _ c.args.starts.now _ (λ i. (known i).fits));
     }
