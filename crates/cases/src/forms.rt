@@ -18,7 +18,7 @@ pub const ANSWERS: usize = 6;
 pub const AREA: usize = 7;
 
 // How many numbers an entry takes, and its lists, of which there are at most six.
-#[derive(Drop)]
+#[derive(Clone, Copy)]
 pub struct Form {
     pub numbers: u8,
     pub lists: usize,
