@@ -12,9 +12,17 @@ mod bounds;
 // a case of any letter
 mod calls;
 
-fn main() {
+use std::io::Result;
+
+fn main(rt: HostRuntime) -> Result<()> {
     let mut input = [0u8; 65536];
     let mut store = [0u32; 318748];
     let mut output = [0u8; 65536];
-    calls::answer_lines(&mut input, &mut store, &mut output);
+    calls::answer_lines(
+        &mut rt.stdin(),
+        &mut rt.stdout(),
+        &mut input,
+        &mut store,
+        &mut output,
+    )
 }
