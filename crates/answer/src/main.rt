@@ -40,7 +40,7 @@ fn print_all(
 }
 
 // The state behind a read, how many bytes it handed over, and whether there is more to read.
-#[derive(Drop)]
+#[derive(Clone, Copy)]
 struct Turn {
     state: State,
     got: usize,

@@ -7,7 +7,7 @@ use crate::{forms, source, store};
 use std::io::{Read, Result};
 
 // A word of a list: a number, or as many as a run has.
-#[derive(Drop)]
+#[derive(Clone, Copy)]
 struct Word {
     source: Source,
     many: u32,
@@ -36,7 +36,7 @@ fn read_word(reader: &mut impl Read, input: &mut [u8], s: Source) -> Result<Word
 }
 
 // The numbers from one place up to but without `next` are `value`.
-#[derive(Drop)]
+#[derive(Clone, Copy)]
 struct Stretch {
     source: Source,
     next: usize,
@@ -195,7 +195,7 @@ fn read_case(
 }
 
 // What stands in a line.
-#[derive(Drop)]
+#[derive(Clone, Copy)]
 pub enum Found {
     Case(u8),
     NoCase,
@@ -203,7 +203,7 @@ pub enum Found {
 }
 
 // What was found, and the input behind it.
-#[derive(Drop)]
+#[derive(Clone, Copy)]
 pub struct Line {
     pub source: Source,
     pub found: Found,

@@ -4,7 +4,7 @@ ghost use Rattle.std.specs.Prelude.{◌≤◌};
 use std::io::{Read, Result};
 
 // The bytes of the buffer from `at` up to but without `end` are unread. `sound` is false once the input has left the text form.
-#[derive(Drop)]
+#[derive(Clone, Copy)]
 pub struct Source {
     pub at: usize,
     pub end: usize,
@@ -52,7 +52,7 @@ fn byte_at(input: &[u8], at: usize, end: usize) -> u8 {
 }
 
 // The next byte, which stays unread; 0 at the end of the input.
-#[derive(Drop)]
+#[derive(Clone, Copy)]
 pub struct Seen {
     pub source: Source,
     pub byte: u8,
@@ -88,7 +88,7 @@ pub fn expect(reader: &mut impl Read, input: &mut [u8], s: Source, byte: u8) -> 
 }
 
 // A number as far as it is read: whether it has a digit, and whether it may have another.
-#[derive(Drop)]
+#[derive(Clone, Copy)]
 struct Digits {
     source: Source,
     value: u64,
@@ -158,7 +158,7 @@ fn read_digits(reader: &mut impl Read, input: &mut [u8], s: Source) -> Result<Di
 }
 
 // A number, 0 where there is none.
-#[derive(Drop)]
+#[derive(Clone, Copy)]
 pub struct Number {
     pub source: Source,
     pub value: u32,

@@ -26,7 +26,7 @@ pub fn number(store: &[u32], at: usize) -> u32 {
 }
 
 // The numbers that an entry takes, in their order; pairs of a class takes the class alone.
-#[derive(Drop)]
+#[derive(Clone, Copy)]
 pub struct Sizes {
     pub items: u32,
     pub labels: u32,
