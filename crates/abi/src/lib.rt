@@ -14,7 +14,7 @@ use rules::{Bounds, Report};
 
 // An answer for C: the number of document 01's table, 0 where nothing is refused, and up to three values, 0 where the table names none.
 #[repr(C)]
-#[derive(Drop)]
+#[derive(Clone, Copy)]
 pub struct KvResult {
     pub number: u32,
     pub a: u32,

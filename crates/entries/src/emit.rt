@@ -9,7 +9,7 @@ ghost use Rattle.entries.specs.Entries.{Went, Firsts, Emitting, is_hit, entries_
 use relations::blocks::{end_of, has_bit, labels_in, lacks};
 
 // How far the entries have come: how many there are, and the first number at which they differ from the stored list.
-#[derive(Drop)]
+#[derive(Clone, Copy)]
 pub struct Progress {
     pub count: usize,
     pub met: usize,

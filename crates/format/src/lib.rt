@@ -6,14 +6,14 @@ pub mod frames; // what a line says
 pub mod texts; // the lines of the output
 
 // The three numbers of a frame 01 or 02, or none.
-#[derive(Drop)]
+#[derive(Clone, Copy)]
 pub enum Fields {
     Three(u32, u32, u32),
     Wrong,
 }
 
 // What a line says.
-#[derive(Drop)]
+#[derive(Clone, Copy)]
 pub enum Frame {
     // 01: items, labels and k
     Sizes(u32, u32, u32),

@@ -7,7 +7,7 @@ ghost use Rattle.std.proofs.lemmas.List.Edits.{sets};
 ghost use Rattle.hexa.specs.Digits.{value_of, past_end, digit_of, number_at, spelling};
 
 // A number that was read, or none: a byte that is no upper-case digit, or the end of the line.
-#[derive(Drop)]
+#[derive(Clone, Copy)]
 pub enum Read {
     Number(u32),
     Bad,

@@ -10,7 +10,7 @@ pub mod turns; // what any line does
 use machine::State;
 
 // How far the input was taken: the state behind it, the place of the next byte, and how many bytes of text stand at the front of the output.
-#[derive(Drop)]
+#[derive(Clone, Copy)]
 pub struct Advance {
     pub state: State,
     pub next: usize,

@@ -6,7 +6,7 @@ pub mod bytes; // a byte that ends no line, and the state before the first
 pub mod stages; // what a line that is no query does
 
 // How far the run has come.
-#[derive(Drop)]
+#[derive(Clone, Copy)]
 pub enum Phase {
     // no line yet
     Opening,
@@ -19,7 +19,7 @@ pub enum Phase {
 }
 
 // The phase, what 01 said, and how many numbers of the edge list and of the entry list are in use.
-#[derive(Drop)]
+#[derive(Clone, Copy)]
 pub struct Progress {
     pub phase: Phase,
     pub items: u32,
@@ -30,14 +30,14 @@ pub struct Progress {
 }
 
 // What a line came to: the progress behind it, and how many bytes of text stand at the front of the output.
-#[derive(Drop)]
+#[derive(Clone, Copy)]
 pub struct Moved {
     pub progress: Progress,
     pub many: usize,
 }
 
 // What is kept between two bytes: the progress, the number of lines so far, and how many bytes of the line in hand are held.
-#[derive(Drop)]
+#[derive(Clone, Copy)]
 pub struct State {
     pub progress: Progress,
     pub lines: u32,
@@ -45,7 +45,7 @@ pub struct State {
 }
 
 // What a byte came to: the state behind it, and how many bytes of text stand at the front of the output.
-#[derive(Drop)]
+#[derive(Clone, Copy)]
 pub struct Taken {
     pub state: State,
     pub many: usize,

@@ -10,7 +10,7 @@ ghost use Rattle.hexa.specs.Digits.{number_at};
 
 use hexa::Read;
 
-#[derive(Drop)]
+#[derive(Clone, Copy)]
 pub struct Frame<'a> {
     pub line: &'a [u8],
     pub at: usize,

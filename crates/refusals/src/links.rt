@@ -6,7 +6,7 @@ ghost use Rattle.refusals.specs.Links.{link_of};
 
 use rules::Refusal;
 
-#[derive(Drop)]
+#[derive(Clone, Copy)]
 pub enum Link {
     Good,
     Refused(Refusal),

@@ -3,7 +3,7 @@
 #![tactic(auto)]
 
 // A refusal: a variant for each number of document 01's table, with the values that the table names.
-#[derive(Drop)]
+#[derive(Clone, Copy)]
 pub enum Refusal {
     // 1: more than 128 items, or not 1 to 8 labels
     Sizes,
@@ -44,7 +44,7 @@ pub enum Refusal {
 }
 
 // What a token byte says.
-#[derive(Drop)]
+#[derive(Clone, Copy)]
 pub enum Token {
     Identity,
     Step(u8),
@@ -54,35 +54,35 @@ pub enum Token {
 }
 
 // Build: the number of classes, of connected pairs and of entries.
-#[derive(Drop)]
+#[derive(Clone, Copy)]
 pub enum Built {
     Tables(u32, u32, u32),
     Refused(Refusal),
 }
 
 // Check.
-#[derive(Drop)]
+#[derive(Clone, Copy)]
 pub enum Checked {
     Accepted,
     Refused(Refusal),
 }
 
 // Direct, stored and class answer: how many stand in the answer list.
-#[derive(Drop)]
+#[derive(Clone, Copy)]
 pub enum Answered {
     Answers(u32),
     Refused(Refusal),
 }
 
 // Pairs of a class and sequence lookup: the part of the caller's list, from the first index up to but without the second.
-#[derive(Drop)]
+#[derive(Clone, Copy)]
 pub enum Bounds {
     Part(usize, usize),
     Refused(Refusal),
 }
 
 // An answer as numbers: document 01's number and up to three values, 0 where the table names none.
-#[derive(Drop)]
+#[derive(Clone, Copy)]
 pub struct Report {
     pub number: u32,
     pub a: u32,

@@ -4,7 +4,7 @@ ghost use Rattle.twins.specs.Chains.{mix_of, hash_of, Small, Raised, Mosts, most
 ghost use Rattle.twins.specs.Halves.{Midpoints};
 
 // The largest hashes so far, by four turns.
-#[derive(Drop)]
+#[derive(Clone, Copy)]
 pub struct Most {
     pub none: u64,
     pub quarter: u64,
