@@ -1,7 +1,6 @@
 // A reader of one frame keeps the line and its place: a struct that holds the line slice and a cursor, and thin functions over
-// functions on a plain slice and numbers. The borrow checker covers no function that takes, makes or holds such a struct, so
-// each of these is proved by hand, and they are few. Whoever else reads a frame calls `field` and `ends`, whose parameters are
-// plain: such a caller is covered, and its proof has nothing of the struct in it.
+// functions on a plain slice and numbers. Whoever else reads a frame calls `field` and `ends`, whose parameters are plain: the
+// proof of such a caller has nothing of the struct in it.
 
 #![tactic(auto)]
 

@@ -1,0 +1,22 @@
+-- The invariant: the entries of the sequences of 1 to j symbols have gone by. The empty sequence is the identity, emitted before.
+use Prim.Native.Nat.{ℕ, ◌+◌, ◌*◌, ◌-◌, ◌≤◌}
+use mathlib.Core.Path.{◌≡◌}
+use mathlib.Core.List.{List}
+use lib.ListN.{length}
+use Rattle.relations.specs.Relations.{Frame, Marked}
+use Rattle.relations.proofs.Laws.Areas as areas
+use Rattle.entries.specs.Entries.{Went, Firsts}
+use Rattle.entries.proofs.Laws.Went as went
+use Rattle.rules.specs.Levels.{max_of}
+use Rattle.rules.specs.Graph.{graph_of}
+use Rattle.sorting.specs.Sort.{Contiguous}
+use Rattle.sequences.proofs.Laws.Walking as walking
+use Rattle.sequences.proofs.Laws.Bounds as bounds
+use Rattle.lists.proofs.Laws.Lengths as listed
+use Rattle.lists.proofs.listing.lengths.Given as goal
+
+abbrev pub invariant-loop-j : goal.invariant-loop-j
+invariant-loop-j l = (l.j ≤ l.k) × (l.done.count ≤ l.initial.done.count + l.j * 1073741824) × (Frame (2 * (l.n * l.n)) (8 * (l.n * l.n)) l.initial.area l.area) × (length l.out ≡ length l.initial.out) × ((es : List ℕ) → Contiguous l.table → Firsts l.n l.table l.initial.area → Marked l.n es l.initial.area → Went l.initial.done.count l.initial.done.met l.done.count l.done.met (listed.longer (graph_of l.n l.labels es) l.table (max_of l.table) l.j) l.stored l.initial.out l.out)
+
+abbrev pub decreases-loop-j : goal.decreases-loop-j
+decreases-loop-j l = l.k - l.j
