@@ -172,3 +172,57 @@ fn answer_input<R: Read, W: Write>(reader: &mut R, writer: &mut W) -> Result<()>
 fn main(rt: HostRuntime) -> Result<()> {
     answer_input(&mut rt.stdin(), &mut rt.stdout())
 }
+
+#[cfg(test)]
+mod tests {
+    use super::*;
+    use std::io::{Error, ErrorKind};
+
+    // Hands over nothing.
+    #[derive(Drop)]
+    struct Broken;
+
+    impl Read for Broken {
+        fn read(&mut self, _buf: &mut [u8]) -> Result<usize> {
+            Err(Error::from(ErrorKind::Other))
+        }
+    }
+
+    // The first lines of crates/answer/stdin, the last in hand, and of its stdout.
+    const INPUT: &[u8] =
+        b"0100040202\n020000000200\n020001000200\n020003000201\n03010220\n030102200021";
+
+    const FIRST: &[u8] = b"81000A0010000E\n8300040000000100040005\n";
+
+    const WHOLE: &[u8] = b"81000A0010000E\n8300040000000100040005\n83000200000005\n";
+
+    #[test]
+    fn the_whole_run(rt: HostRuntime) -> Result<()> {
+        let mut input = INPUT;
+        let mut out = Vec::new(rt.alloc());
+        answer_input(&mut input, &mut out)?;
+        assert_eq!(rt; out.as_slice(), WHOLE);
+        Ok(())
+    }
+
+    // What was printed before stays, and nothing is printed for the line in hand.
+    #[test]
+    fn a_read_that_fails(rt: HostRuntime) -> Result<()> {
+        let mut input = INPUT.chain(Broken);
+        let mut out = Vec::new(rt.alloc());
+        let result = answer_input(&mut input, &mut out);
+        assert!(rt; result.is_err());
+        assert_eq!(rt; out.as_slice(), FIRST);
+        Ok(())
+    }
+
+    #[test]
+    fn a_write_that_fails(rt: HostRuntime) -> Result<()> {
+        let mut input = INPUT;
+        let mut room = [0u8; 20];
+        let mut out = &mut room[..];
+        let result = answer_input(&mut input, &mut out);
+        assert!(rt; result.is_err());
+        Ok(())
+    }
+}
