@@ -141,6 +141,8 @@ module _ (items labels : ℕ) (table entries : List ℕ) where
 ready_found : (t : Stage) → Ready t → (lines : List (List ℕ)) (s : Stage) → Takes program t lines s → F.Queries t lines s
 ready_found (answering items labels table entries) has_tables lines s r = queries_found items labels table entries r refl
 ready_found stopped has_stopped lines s r = rw (takes_stopped r refl) F.unread
+ready_found opening no_stage lines s r = elim no_stage [ ]
+ready_found (gathering _ _ _ _) no_stage lines s r = elim no_stage [ ]
 
 queries_taken : {t s : Stage} {lines : List (List ℕ)} → F.Queries t lines s → Takes program t lines s
 unfolding program line_end
