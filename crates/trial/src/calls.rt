@@ -1,5 +1,5 @@
 // A case: its letter says which entry is called.
-use crate::{answers, bounds, tables};
+use crate::{answer_calls, bounds, table_calls};
 use cases::reading::Found;
 use cases::{forms, printing, reading, source, store};
 use rules::Report;
@@ -8,11 +8,11 @@ use std::io::{Read, Result, Write};
 // The entry of a letter.
 fn call(letter: u8, store: &mut [u32], area: &mut [u8]) -> Report {
     match letter {
-        b'B' => tables::build(store, area),
-        b'C' => tables::check(store, area),
+        b'B' => table_calls::build(store, area),
+        b'C' => table_calls::check(store, area),
         b'P' => bounds::pairs(store),
         b'L' => bounds::lookup(store),
-        _ => answers::answer(letter, store, area),
+        _ => answer_calls::answer(letter, store, area),
     }
 }
 

@@ -4,9 +4,9 @@
 #![tactic(auto)]
 
 // direct, stored and class answer
-mod answers;
+mod answer_calls;
 // build and check
-mod tables;
+mod table_calls;
 // pairs of a class, and sequence lookup
 mod bounds;
 // a case of any letter
