@@ -1,11 +1,7 @@
 -- The machine behind a piece of the input, behind all reads, and at the end.
-use Prim.Native.Nat.{ℕ, ◌≤◌}
-use mathlib.Core.Path.{◌≡◌, refl, sym, ap, ◌∙◌}
-use mathlib.Core.List.{List, [], ◌++◌}
-use mathlib.Core.Bool.{Bool, false, not}
-use native.Mathlib.Omega.{arith}
+use Rattle.std.proofs.Common.{ℕ, ◌≤◌, ◌≡◌, sym, ap, ◌∙◌, List, [], ◌++◌, Bool, false, not, arith, length, take, drop}
+use Rattle.std.proofs.Math.ListN.{drop_of_length-le}
 use borrow.Author.Tests.{ne_eqb}
-use lib.ListN.{length, take, drop, drop_of_length-le}
 use Rattle.machine.specs.Machine.{Stage, is_stopped, Machine, beginning, Fed, after, feed, finish}
 use Rattle.machine.specs.declared.State.{State}
 use Rattle.machine.specs.Standing.{stage_of, machine_of}

@@ -1,5 +1,5 @@
 -- What the reads come to. No contract can say which bytes stand in the input: these speak of the bytes that the reads handed over.
-use Rattle.std.specs.Prelude.{ℕ, ◌≤◌, ◌≡◌, List, Bool, true, false, not, cond, eqb, length, take}
+use Rattle.std.specs.Prelude.{ℕ, ◌≤◌, ◌≡◌, List, Bool, false, not, cond, eqb, length, take}
 use Rattle.machine.specs.Machine.{Stage, is_stopped, Machine, beginning, feed, finish}
 
 -- whether there is more to read behind a read: not where it handed over nothing, nor once the run has stopped

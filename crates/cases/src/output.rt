@@ -1,68 +1,78 @@
-// Standard output through a lent buffer, of which the bytes below a place are not yet written. Each function returns the place behind
-// what it puts there.
+// A writer, as standard output, through a lent buffer, of which the bytes below a place are not yet written. Each function returns the
+// place behind what it puts there.
 use crate::fronts;
-use libc::STDOUT_FILENO;
+use itoa::Buffer;
+use std::io::{Result, Write};
 
 // Writes what stands in the buffer.
-pub fn flush(output: &[u8], at: usize) {
-    io::write_all(STDOUT_FILENO, fronts::bytes(output, at));
+pub fn flush(writer: &mut impl Write, output: &[u8], at: usize) -> Result<()> {
+    writer.write_all(fronts::bytes(output, at))
 }
 
 // A place in the buffer: where it is full, it is written first.
-fn room(output: &[u8], at: usize) -> usize {
+fn room(writer: &mut impl Write, output: &[u8], at: usize) -> Result<usize> {
     if at < output.len() {
-        return at;
+        return Ok(at);
     }
-    flush(output, at);
-    0
+    flush(writer, output, at)?;
+    Ok(0)
 }
 
-pub fn put(output: &mut [u8], at: usize, byte: u8) -> usize {
-    let to = room(output, at);
+pub fn put(writer: &mut impl Write, output: &mut [u8], at: usize, byte: u8) -> Result<usize> {
+    let to = room(writer, output, at)?;
     if to < output.len() {
         output[to] = byte;
-        return to + 1;
+        return Ok(to + 1);
     }
-    to
+    Ok(to)
 }
 
-fn put_all(output: &mut [u8], at: usize, text: &[u8]) -> usize {
+fn put_all(writer: &mut impl Write, output: &mut [u8], at: usize, text: &[u8]) -> Result<usize> {
     let mut to = at;
-    let mut i: usize = 0;
-    while i < text.len() {
-        to = put(output, to, text[i]);
-        i += 1;
+    for byte in text {
+        to = put(writer, output, to, *byte)?;
     }
-    to
+    Ok(to)
 }
 
-pub fn put_decimal(output: &mut [u8], at: usize, x: u64) -> usize {
-    let mut text = [0u8; 20];
-    let k = io::decimal(x, &mut text);
-    put_all(output, at, &text[..k])
+pub fn put_decimal(writer: &mut impl Write, output: &mut [u8], at: usize, x: u64) -> Result<usize> {
+    let mut text = Buffer::new();
+    put_all(writer, output, at, text.format(x).as_bytes())
 }
 
 // A space and a number.
-pub fn put_next(output: &mut [u8], at: usize, x: u64) -> usize {
-    let to = put(output, at, b' ');
-    put_decimal(output, to, x)
+pub fn put_next(writer: &mut impl Write, output: &mut [u8], at: usize, x: u64) -> Result<usize> {
+    let to = put(writer, output, at, b' ')?;
+    put_decimal(writer, output, to, x)
 }
 
 // A space, and a run with its star.
-fn put_run(output: &mut [u8], at: usize, many: u64, x: u64) -> usize {
-    let star = put_next(output, at, many);
-    let to = put(output, star, b'*');
-    put_decimal(output, to, x)
+fn put_run(
+    writer: &mut impl Write,
+    output: &mut [u8],
+    at: usize,
+    many: u64,
+    x: u64,
+) -> Result<usize> {
+    let star = put_next(writer, output, at, many)?;
+    let to = put(writer, output, star, b'*')?;
+    put_decimal(writer, output, to, x)
 }
 
 // As many equal numbers, as a run from three on.
-pub fn put_stretch(output: &mut [u8], at: usize, many: u64, x: u64) -> usize {
+pub fn put_stretch(
+    writer: &mut impl Write,
+    output: &mut [u8],
+    at: usize,
+    many: u64,
+    x: u64,
+) -> Result<usize> {
     if many > 2 {
-        return put_run(output, at, many, x);
+        return put_run(writer, output, at, many, x);
     }
-    let to = put_next(output, at, x);
+    let to = put_next(writer, output, at, x)?;
     if many == 2 {
-        return put_next(output, to, x);
+        return put_next(writer, output, to, x);
     }
-    to
+    Ok(to)
 }

@@ -4,17 +4,18 @@ ghost use Rattle.std.specs.Prelude.{◌<◌, ◌≤◌, length};
 use crate::forms::Form;
 use crate::{forms, output, store};
 use rules::Report;
+use std::io::{Result, Write};
 
 fn wide(x: u32) -> u64 {
     x as u64
 }
 
 // Number a b c.
-fn put_report(out: &mut [u8], r: Report) -> usize {
-    let number = output::put_decimal(out, 0, wide(r.number));
-    let a = output::put_next(out, number, wide(r.a));
-    let b = output::put_next(out, a, wide(r.b));
-    output::put_next(out, b, wide(r.c))
+fn put_report(writer: &mut impl Write, out: &mut [u8], r: Report) -> Result<usize> {
+    let number = output::put_decimal(writer, out, 0, wide(r.number))?;
+    let a = output::put_next(writer, out, number, wide(r.a))?;
+    let b = output::put_next(writer, out, a, wide(r.b))?;
+    output::put_next(writer, out, b, wide(r.c))
 }
 
 // The place behind the numbers that are equal to the one at a place.
@@ -34,31 +35,42 @@ fn alike(list: &[u32], from: usize) -> usize
 }
 
 // A list's count and its numbers.
-fn put_list(out: &mut [u8], at: usize, list: &[u32]) -> usize {
-    let mut to = output::put_next(out, at, list.len() as u64);
+fn put_list(writer: &mut impl Write, out: &mut [u8], at: usize, list: &[u32]) -> Result<usize> {
+    let mut to = output::put_next(writer, out, at, list.len() as u64)?;
     let mut i: usize = 0;
     while i < list.len() {
         let next = alike(list, i);
-        to = output::put_stretch(out, to, (next - i) as u64, wide(list[i]));
+        to = output::put_stretch(writer, out, to, (next - i) as u64, wide(list[i]))?;
         i = next;
     }
-    to
+    Ok(to)
 }
 
-fn put_lists(out: &mut [u8], at: usize, store: &[u32], form: Form) -> usize {
+fn put_lists(
+    writer: &mut impl Write,
+    out: &mut [u8],
+    at: usize,
+    store: &[u32],
+    form: Form,
+) -> Result<usize> {
     let mut to = at;
-    let mut i: usize = 0;
-    while i < form.lists {
-        to = put_list(out, to, store::numbers(store, forms::list_at(form, i)));
-        i += 1;
+    for i in 0..form.lists {
+        let list = store::numbers(store, forms::list_at(form, i));
+        to = put_list(writer, out, to, list)?;
     }
-    to
+    Ok(to)
 }
 
 // An answer is written as soon as it is whole.
-pub fn print_case(out: &mut [u8], letter: u8, report: Report, store: &[u32]) {
-    let behind_report = put_report(out, report);
-    let behind_lists = put_lists(out, behind_report, store, forms::form_of(letter));
-    let to = output::put(out, behind_lists, b'\n');
-    output::flush(out, to);
+pub fn print_case(
+    writer: &mut impl Write,
+    out: &mut [u8],
+    letter: u8,
+    report: Report,
+    store: &[u32],
+) -> Result<()> {
+    let behind_report = put_report(writer, out, report)?;
+    let behind_lists = put_lists(writer, out, behind_report, store, forms::form_of(letter))?;
+    let to = output::put(writer, out, behind_lists, b'\n')?;
+    output::flush(writer, out, to)
 }

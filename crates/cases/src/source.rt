@@ -1,7 +1,7 @@
-// Standard input through a lent buffer: bytes, numbers and runs.
+// A reader, as standard input, through a lent buffer: bytes, numbers and runs.
 ghost use Rattle.std.specs.Prelude.{◌≤◌};
 
-use libc::STDIN_FILENO;
+use std::io::{Read, Result};
 
 // The bytes of the buffer from `at` up to but without `end` are unread. `sound` is false once the input has left the text form.
 #[derive(Clone, Copy)]
@@ -28,17 +28,16 @@ pub fn unsound(s: Source) -> Source {
 }
 
 // Reads on where all is read.
-fn ready(input: &mut [u8], s: Source) -> Source {
+fn ready(reader: &mut impl Read, input: &mut [u8], s: Source) -> Result<Source> {
     if s.at < s.end {
-        return s;
+        return Ok(s);
     }
-    let got = libc::read(STDIN_FILENO, input);
-    let end = io::count(got, input);
-    Source {
+    let end = reader.read(input)?;
+    Ok(Source {
         at: 0,
         end,
         sound: s.sound,
-    }
+    })
 }
 
 // The byte at a place, or 0 where there is none.
@@ -59,12 +58,12 @@ pub struct Seen {
     pub byte: u8,
 }
 
-pub fn peek(input: &mut [u8], s: Source) -> Seen {
-    let source = ready(input, s);
+pub fn peek(reader: &mut impl Read, input: &mut [u8], s: Source) -> Result<Seen> {
+    let source = ready(reader, input, s)?;
     let at = source.at;
     let end = source.end;
     let byte = byte_at(input, at, end);
-    Seen { source, byte }
+    Ok(Seen { source, byte })
 }
 
 // The byte that was seen is read.
@@ -80,12 +79,12 @@ pub fn taken(s: Source) -> Source {
 }
 
 // Reads a byte that has to be there.
-pub fn expect(input: &mut [u8], s: Source, byte: u8) -> Source {
-    let seen = peek(input, s);
+pub fn expect(reader: &mut impl Read, input: &mut [u8], s: Source, byte: u8) -> Result<Source> {
+    let seen = peek(reader, input, s)?;
     if seen.byte == byte {
-        return taken(seen.source);
+        return Ok(taken(seen.source));
     }
-    unsound(seen.source)
+    Ok(unsound(seen.source))
 }
 
 // A number as far as it is read: whether it has a digit, and whether it may have another.
@@ -120,43 +119,42 @@ fn with_digit(value: u64, digit: u64) -> u64
     value * 10 + digit
 }
 
-fn next_digit(input: &mut [u8], d: Digits) -> Digits {
+fn next_digit(reader: &mut impl Read, input: &mut [u8], d: Digits) -> Result<Digits> {
     let from = d.source;
-    let seen = peek(input, from);
+    let seen = peek(reader, input, from)?;
     let source = seen.source;
     let digit = digit_of(seen.byte);
     if digit == 10 {
-        return Digits {
+        return Ok(Digits {
             source,
             value: d.value,
             some: d.some,
             more: false,
-        };
+        });
     }
-    Digits {
+    Ok(Digits {
         source: taken(source),
         value: with_digit(d.value, digit),
         some: true,
         more: true,
-    }
+    })
 }
 
 // Ten digits say every number, and an eleventh is one too many.
-fn read_digits(input: &mut [u8], s: Source) -> Digits {
+fn read_digits(reader: &mut impl Read, input: &mut [u8], s: Source) -> Result<Digits> {
     let mut d = Digits {
         source: s,
         value: 0,
         some: false,
         more: true,
     };
-    let mut more = true;
-    let mut turn: usize = 0;
-    while more && turn < 11 {
-        d = next_digit(input, d);
-        more = d.more;
-        turn += 1;
+    for _ in 0..11 {
+        d = next_digit(reader, input, d)?;
+        if !d.more {
+            break;
+        }
     }
-    d
+    Ok(d)
 }
 
 // A number, 0 where there is none.
@@ -166,29 +164,29 @@ pub struct Number {
     pub value: u32,
 }
 
-pub fn read_number(input: &mut [u8], s: Source) -> Number {
-    let d = read_digits(input, s);
+pub fn read_number(reader: &mut impl Read, input: &mut [u8], s: Source) -> Result<Number> {
+    let d = read_digits(reader, input, s)?;
     let source = d.source;
     if !d.some {
-        return Number {
+        return Ok(Number {
             source: unsound(source),
             value: 0,
-        };
+        });
     }
     if d.value > 4294967295 {
-        return Number {
+        return Ok(Number {
             source: unsound(source),
             value: 0,
-        };
+        });
     }
-    Number {
+    Ok(Number {
         source,
         value: d.value as u32,
-    }
+    })
 }
 
 // A space and a number.
-pub fn next_number(input: &mut [u8], s: Source) -> Number {
-    let source = expect(input, s, b' ');
-    read_number(input, source)
+pub fn next_number(reader: &mut impl Read, input: &mut [u8], s: Source) -> Result<Number> {
+    let source = expect(reader, input, s, b' ')?;
+    read_number(reader, input, source)
 }

@@ -72,10 +72,8 @@ fn numbers_mut(store: &mut [u32], list: usize) -> &mut [u32] {
 
 // Copies a list to the front of another.
 fn copy(from: &[u32], to: &mut [u32]) {
-    let mut i: usize = 0;
-    while i < from.len() {
-        put(to, i, from[i]);
-        i += 1;
+    for (i, x) in from.iter().enumerate() {
+        put(to, i, *x);
     }
 }
 
@@ -92,10 +90,8 @@ fn put_byte(list: &mut [u8], at: usize, x: u32) {
 }
 
 fn narrow(from: &[u32], to: &mut [u8]) {
-    let mut i: usize = 0;
-    while i < from.len() {
-        put_byte(to, i, from[i]);
-        i += 1;
+    for (i, x) in from.iter().enumerate() {
+        put_byte(to, i, *x);
     }
 }
 
@@ -115,10 +111,8 @@ fn wide(x: u8) -> u32 {
 }
 
 fn widen(from: &[u8], to: &mut [u32]) {
-    let mut i: usize = 0;
-    while i < from.len() {
-        put(to, i, wide(from[i]));
-        i += 1;
+    for (i, x) in from.iter().enumerate() {
+        put(to, i, wide(*x));
     }
 }
 

@@ -3,38 +3,57 @@
 
 #![tactic(auto)]
 
-use hexa::Read;
-use libc::{STDIN_FILENO, STDOUT_FILENO};
+ghost use Rattle.std.specs.Prelude.{◌≤◌, length, IfOk};
 
-fn write_number(x: u32) {
+use hexa::Read;
+use std::io;
+use std::io::{Result, Write};
+
+fn write_number(writer: &mut impl Write, x: u32) -> Result<()> {
     let mut out = [10u8; 9];
     hexa::put_digits(&mut out, 0, 8, x);
-    io::write_all(STDOUT_FILENO, &out);
+    writer.write_all(&out)
 }
 
-fn write_end(ended: bool) {
+fn write_end(writer: &mut impl Write, ended: bool) -> Result<()> {
     if ended {
-        io::write_all(STDOUT_FILENO, b"ended\n");
+        writer.write_all(b"ended\n")
     } else {
-        io::write_all(STDOUT_FILENO, b"no number\n");
+        writer.write_all(b"no number\n")
     }
 }
 
 // The numbers of a line that is at most 4,096 bytes long.
-fn echo(line: &[u8]) {
+fn echo(writer: &mut impl Write, line: &[u8]) -> Result<()> {
     for i in 0..1024 {
         let at = i * 4;
         let Read::Number(x) = reader::field(line, at, 4) else {
-            write_end(reader::ends(line, at));
-            return;
+            return write_end(writer, reader::ends(line, at));
         };
-        write_number(x);
+        write_number(writer, x)?;
     }
+    Ok(())
 }
 
-fn main() {
-    let mut buffer = io::buffer();
-    let n = io::read_full(STDIN_FILENO, &mut buffer);
-    echo(&buffer[..n]);
-    echo(b"0100FFFF");
+// Reads until the buffer is full or the input ends: how many bytes stand at its front.
+fn read_full(from: &mut impl io::Read, buffer: &mut [u8]) -> Result<usize>
+    ensures { IfOk result (λ n. n ≤ length buffer.new) }
+{
+    let mut n = 0;
+    while n < buffer.len() {
+        let got = from.read(&mut buffer[n..])?;
+        if got == 0 {
+            break;
+        }
+        n += got;
+    }
+    Ok(n)
+}
+
+fn main(rt: HostRuntime) -> Result<()> {
+    let mut buffer = [0u8; 4096];
+    let n = read_full(&mut rt.stdin(), &mut buffer)?;
+    let mut stdout = rt.stdout();
+    echo(&mut stdout, &buffer[..n])?;
+    echo(&mut stdout, b"0100FFFF")
 }

@@ -4,20 +4,19 @@
 
 #![tactic(auto)]
 
-use libc::STDOUT_FILENO;
 use rules::{Built, Report};
+use std::io::Result;
 
-fn write_number(x: u32) {
-    io::write_all(STDOUT_FILENO, b" ");
-    io::print_decimal(STDOUT_FILENO, x as u64);
+fn write_number(rt: &impl Print, x: u32) -> Result<()> {
+    print!(rt; " {x}")
 }
 
-fn write_list(name: &[u8], list: &[u32]) {
-    io::write_all(STDOUT_FILENO, name);
-    for i in 0..list.len() {
-        write_number(list[i]);
+fn write_list(rt: &impl Print, name: &str, list: &[u32]) -> Result<()> {
+    print!(rt; "{name}")?;
+    for x in list {
+        write_number(rt, *x)?;
     }
-    io::write_all(STDOUT_FILENO, b"\n");
+    print!(rt; "\n")
 }
 
 fn wide(x: u8) -> u32 {
@@ -25,23 +24,23 @@ fn wide(x: u8) -> u32 {
 }
 
 // The bytes of the area that are not 0.
-fn write_area(area: &[u8]) {
-    io::write_all(STDOUT_FILENO, b"area");
-    for i in 0..area.len() {
-        if area[i] != 0 {
-            write_number(wide(area[i]));
+fn write_area(rt: &impl Print, area: &[u8]) -> Result<()> {
+    print!(rt; "area")?;
+    for byte in area {
+        if *byte != 0 {
+            write_number(rt, wide(*byte))?;
         }
     }
-    io::write_all(STDOUT_FILENO, b"\n");
+    print!(rt; "\n")
 }
 
-fn write_report(name: &[u8], r: Report) {
-    io::write_all(STDOUT_FILENO, name);
-    write_number(r.number);
-    write_number(r.a);
-    write_number(r.b);
-    write_number(r.c);
-    io::write_all(STDOUT_FILENO, b"\n");
+fn write_report(rt: &impl Print, name: &str, r: Report) -> Result<()> {
+    print!(rt; "{name}")?;
+    write_number(rt, r.number)?;
+    write_number(rt, r.a)?;
+    write_number(rt, r.b)?;
+    write_number(rt, r.c)?;
+    print!(rt; "\n")
 }
 
 // The first n numbers, or all if there are fewer.
@@ -53,17 +52,26 @@ fn cut(list: &[u32], n: usize) -> &[u32] {
 }
 
 // What build returned, and what stands in all that was lent.
-fn show(built: Built, levels: &[u32], starts: &[u32], order: &[u32], entries: &[u32], area: &[u8]) {
-    write_report(b"built", reports::report_built(built));
-    write_list(b"levels", levels);
-    write_list(b"starts", starts);
-    write_list(b"order", order);
-    write_list(b"entries", entries);
-    write_area(area);
+fn show(
+    rt: &impl Print,
+    built: Built,
+    levels: &[u32],
+    starts: &[u32],
+    order: &[u32],
+    entries: &[u32],
+    area: &[u8],
+) -> Result<()> {
+    write_report(rt, "built", reports::report_built(built))?;
+    write_list(rt, "levels", levels)?;
+    write_list(rt, "starts", starts)?;
+    write_list(rt, "order", order)?;
+    write_list(rt, "entries", entries)?;
+    write_area(rt, area)
 }
 
 // What check says of tables.
 fn judge(
+    rt: &impl Print,
     items: u32,
     k: u32,
     edges: &[u32],
@@ -72,14 +80,15 @@ fn judge(
     order: &[u32],
     entries: &[u32],
     area: &mut [u8],
-) {
+) -> Result<()> {
     let checked = index::check(items, 2, k, edges, levels, starts, order, entries, area);
-    write_report(b"checked", reports::report_checked(checked));
-    write_area(area);
+    write_report(rt, "checked", reports::report_checked(checked))?;
+    write_area(rt, area)
 }
 
 // What check says of the tables that were built, cut to the counts that build returned.
 fn judge_built(
+    rt: &impl Print,
     items: u32,
     edges: &[u32],
     built: Built,
@@ -88,11 +97,12 @@ fn judge_built(
     order: &[u32],
     entries: &[u32],
     area: &mut [u8],
-) {
+) -> Result<()> {
     let Built::Tables(classes, pairs, many) = built else {
-        return;
+        return Ok(());
     };
     judge(
+        rt,
         items,
         2,
         edges,
@@ -101,10 +111,11 @@ fn judge_built(
         cut(order, pairs as usize),
         cut(entries, 2 * (many as usize)),
         area,
-    );
+    )
 }
 
 fn run(
+    rt: &impl Print,
     items: u32,
     edges: &[u32],
     levels: &mut [u32],
@@ -112,20 +123,23 @@ fn run(
     order: &mut [u32],
     entries: &mut [u32],
     area: &mut [u8],
-) {
+) -> Result<()> {
     let built = index::build(items, 2, 2, edges, levels, starts, order, entries, area);
-    show(built, levels, starts, order, entries, area);
-    judge_built(items, edges, built, levels, starts, order, entries, area);
+    show(rt, built, levels, starts, order, entries, area)?;
+    judge_built(
+        rt, items, edges, built, levels, starts, order, entries, area,
+    )
 }
 
 // The example's edge table, with room for so many entry numbers.
-fn example(entries: &mut [u32]) {
+fn example(rt: &impl Print, entries: &mut [u32]) -> Result<()> {
     let edges: [u32; 9] = [0, 2, 0, 1, 2, 0, 3, 2, 1];
     let mut levels = [7u32; 33];
     let mut starts = [7u32; 18];
     let mut order = [7u32; 17];
     let mut area = [9u8; 145];
     run(
+        rt,
         4,
         &edges,
         &mut levels,
@@ -133,11 +147,11 @@ fn example(entries: &mut [u32]) {
         &mut order,
         entries,
         &mut area,
-    );
+    )
 }
 
 // No items.
-fn nothing() {
+fn nothing(rt: &impl Print) -> Result<()> {
     let edges: [u32; 1] = [0];
     let mut levels = [7u32; 1];
     let mut starts = [7u32; 2];
@@ -145,6 +159,7 @@ fn nothing() {
     let mut entries = [7u32; 1];
     let mut area = [9u8; 1];
     run(
+        rt,
         0,
         cut(&edges, 0),
         &mut levels,
@@ -152,27 +167,33 @@ fn nothing() {
         &mut order,
         &mut entries,
         &mut area,
-    );
+    )
 }
 
 // Tables of the example for k = 1 that were not built.
-fn stored(levels: &[u32], starts: &[u32], order: &[u32], entries: &[u32]) {
+fn stored(
+    rt: &impl Print,
+    levels: &[u32],
+    starts: &[u32],
+    order: &[u32],
+    entries: &[u32],
+) -> Result<()> {
     let edges: [u32; 9] = [0, 2, 0, 1, 2, 0, 3, 2, 1];
     let mut area = [9u8; 145];
-    judge(4, 1, &edges, levels, starts, order, entries, &mut area);
+    judge(rt, 4, 1, &edges, levels, starts, order, entries, &mut area)
 }
 
-fn main() {
+fn main(rt: HostRuntime) -> Result<()> {
     let mut entries = [7u32; 29];
-    example(&mut entries);
+    example(&rt, &mut entries)?;
     let mut few = [7u32; 27];
-    example(&mut few);
-    nothing();
+    example(&rt, &mut few)?;
+    nothing(&rt)?;
     let starts: [u32; 7] = [0, 3, 5, 6, 8, 9, 10];
     let order: [u32; 10] = [0, 10, 15, 2, 6, 5, 8, 9, 11, 14];
     let list: [u32; 12] = [0, 1, 0, 3, 1, 2, 2, 4, 3, 6, 4, 5];
     let finer: [u32; 16] = [1, 0, 2, 0, 0, 3, 2, 0, 4, 4, 1, 5, 0, 0, 6, 1];
-    stored(&finer, &starts, &order, &list);
+    stored(&rt, &finer, &starts, &order, &list)?;
     let coarser: [u32; 16] = [1, 0, 2, 0, 0, 1, 2, 0, 3, 3, 1, 3, 0, 0, 4, 1];
-    stored(&coarser, &starts, &order, &list);
+    stored(&rt, &coarser, &starts, &order, &list)
 }

@@ -25,16 +25,14 @@ fn report_bounds(bounds: Bounds) -> Report {
 // Whether a part has the numbers of the list from a place up to but without another.
 fn is_between(part: &[u32], list: &[u32], from: usize, to: usize) -> bool {
     let mut at = from;
-    let mut i: usize = 0;
-    while i < part.len() {
+    for x in part {
         if to <= at {
             return false;
         }
-        if store::number(list, at) != part[i] {
+        if store::number(list, at) != *x {
             return false;
         }
         at += 1;
-        i += 1;
     }
     at == to
 }

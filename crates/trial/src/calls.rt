@@ -1,18 +1,18 @@
 // A case: its letter says which entry is called.
-use crate::{answers, bounds, tables};
+use crate::{answer_calls, bounds, table_calls};
 use cases::reading::Found;
 use cases::{forms, printing, reading, source, store};
-use libc::STDOUT_FILENO;
 use rules::Report;
+use std::io::{Read, Result, Write};
 
 // The entry of a letter.
 fn call(letter: u8, store: &mut [u32], area: &mut [u8]) -> Report {
     match letter {
-        b'B' => tables::build(store, area),
-        b'C' => tables::check(store, area),
+        b'B' => table_calls::build(store, area),
+        b'C' => table_calls::check(store, area),
         b'P' => bounds::pairs(store),
         b'L' => bounds::lookup(store),
-        _ => answers::answer(letter, store, area),
+        _ => answer_calls::answer(letter, store, area),
     }
 }
 
@@ -23,41 +23,58 @@ fn call_with(letter: u8, area: &mut [u8], store: &mut [u32]) -> Report {
     report
 }
 
-fn answer_case(letter: u8, store: &mut [u32], out: &mut [u8]) {
+fn answer_case(
+    writer: &mut impl Write,
+    letter: u8,
+    store: &mut [u32],
+    out: &mut [u8],
+) -> Result<()> {
     let mut area = [0u8; 149785];
     let report = call_with(
         letter,
         store::fetch_bytes(store, forms::AREA, &mut area),
         store,
     );
-    printing::print_case(out, letter, report, store);
+    printing::print_case(writer, out, letter, report, store)
 }
 
 // Answers a case, and says whether there may be another.
-fn answer(found: Found, store: &mut [u32], out: &mut [u8]) -> bool {
+fn answer(
+    writer: &mut impl Write,
+    found: Found,
+    store: &mut [u32],
+    out: &mut [u8],
+) -> Result<bool> {
     match found {
         Found::Case(letter) => {
-            answer_case(letter, store, out);
-            true
+            answer_case(writer, letter, store, out)?;
+            Ok(true)
         }
         Found::NoCase => {
-            io::write_all(STDOUT_FILENO, b"no case\n");
-            false
+            writer.write_all(b"no case\n")?;
+            Ok(false)
         }
-        Found::End => false,
+        Found::End => Ok(false),
     }
 }
 
 // A proved loop has to end, and nothing says that the input does: the lines are counted down, from a number that no run uses up.
-pub fn answer_lines(input: &mut [u8], store: &mut [u32], out: &mut [u8]) {
+pub fn answer_lines(
+    reader: &mut impl Read,
+    writer: &mut impl Write,
+    input: &mut [u8],
+    store: &mut [u32],
+    out: &mut [u8],
+) -> Result<()> {
     let mut source = source::start();
-    let mut more = true;
-    let mut turns = u64::MAX;
-    while more && turns > 0 {
-        let line = reading::next_line(input, source, store);
+    for _ in 0..u64::MAX {
+        let line = reading::next_line(reader, input, source, store)?;
         let found = line.found;
         source = line.source;
-        more = answer(found, store, out);
-        turns -= 1;
+        let more = answer(writer, found, store, out)?;
+        if !more {
+            break;
+        }
     }
+    Ok(())
 }

@@ -4,17 +4,25 @@
 #![tactic(auto)]
 
 // direct, stored and class answer
-mod answers;
+mod answer_calls;
 // build and check
-mod tables;
+mod table_calls;
 // pairs of a class, and sequence lookup
 mod bounds;
 // a case of any letter
 mod calls;
 
-fn main() {
+use std::io::Result;
+
+fn main(rt: HostRuntime) -> Result<()> {
     let mut input = [0u8; 65536];
     let mut store = [0u32; 318748];
     let mut output = [0u8; 65536];
-    calls::answer_lines(&mut input, &mut store, &mut output);
+    calls::answer_lines(
+        &mut rt.stdin(),
+        &mut rt.stdout(),
+        &mut input,
+        &mut store,
+        &mut output,
+    )
 }

@@ -1,0 +1,9 @@
+-- What was read lies within the buffer, and what is left of the buffer falls.
+use Rattle.std.proofs.Common.{length, ◌-◌, ◌≤◌}
+use Rattle.hexa_runs.proofs.read_full.Given as goal
+
+abbrev pub invariant-loop-n : goal.invariant-loop-n
+invariant-loop-n g l = l.n ≤ length l.buffer
+
+abbrev pub decreases-loop-n : goal.decreases-loop-n
+decreases-loop-n g l = length l.initial.buffer - l.n
