@@ -17,6 +17,7 @@ pub mod Bisim
 pub mod Agree
 pub mod Numbering
 pub mod Numbered
+pub mod Lawful
 pub mod Levels
 pub mod Accepted
 pub mod AllOrNone

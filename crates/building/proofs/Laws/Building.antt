@@ -31,6 +31,7 @@ use Rattle.sorting.proofs.Laws.Sorting.{up_to_le}
 use Rattle.sorting.proofs.Laws.Numbers.{at_most, max_few}
 use Rattle.rules.specs.Calls.{build_end}
 use Rattle.rules.proofs.Laws.Places.{square_le}
+use Rattle.rules.proofs.Laws.Lawful.{rule_laws}
 use Rattle.top.specs.Tables.{Standing, ListsStored}
 use Rattle.building.specs.Building.{EndsAs, ListsReady, ListsWritten}
 use Rattle.top.proofs.Laws.Fronts.{front_in, zeroed_past}
@@ -155,7 +156,7 @@ module _ (c : BuildCall) (ok : build_refusal c ≡ good) where
 
   top_numbered : Contiguous top
   unfolding graph_of
-  top_numbered = accepted_contiguous rule g c.k (built_level rule g) (level_ok_lem rule g c.k some_levels.some_level) top_size
+  top_numbered = accepted_contiguous rule g c.k (built_level rule g) (level_ok_lem rule rule_laws g c.k some_levels.some_level) top_size
 
   module _ (levels' : List ℕ) (written : levels' ≡ front (built_levels rule g c.k) c.levels) where
     pub table_is : level_of n levels' c.k ≡ top

@@ -36,6 +36,7 @@ use Rattle.rules.proofs.Theorems.Determined.{build_end_lem, answer_end}
 use Rattle.rules.proofs.Theorems.Stored.{stored_is_direct}
 use Rattle.rules.specs.Calls.{direct_call, stored_call}
 use Rattle.rules.specs.Calls.{index_of}
+use Rattle.rules.proofs.Laws.Lawful.{rule_laws}
 
 -- the tables that build left, the lists cut to the counts that it returned
 unfoldable pub cut : BuildCall → BuildEnd → ℕ → ℕ → ℕ → Index
@@ -110,7 +111,7 @@ module _ (c : CheckCall) (e : CheckEnd) (checked : Checks c e) (ok : e.result �
           let n = c.index.items in
           let g = check_graph c in
           let r = (accepted_exactly c).0 accepted in
-          let same = all_or_none_class rule g c.index.k (level_of n c.index.levels) r.1.levels q (reading_formed c.index.labels tokens q read)
+          let same = all_or_none_class rule rule_laws g c.index.k (level_of n c.index.levels) r.1.levels q (reading_formed c.index.labels tokens q read)
           (passed c r.0).levels.some_level short class some a b ha hb ea eb in
           list_here (λ p. meets g q (p / n) (p % n)) (n * n) b hb (sym same ∙ (list_find (λ p. meets g q (p / n) (p % n)) (n * n) a m).1)
 

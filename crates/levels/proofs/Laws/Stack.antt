@@ -31,6 +31,7 @@ use Rattle.levels.specs.Needs.{Room, Judged}
 use Rattle.levels.specs.Repeat.{Topped}
 use Rattle.rules.proofs.Laws.Faults.{right_accepted}
 use Rattle.rules.proofs.Laws.Fronts.{front_length}
+use Rattle.rules.proofs.Laws.Lawful.{rule_laws}
 use Rattle.twins.proofs.Laws.Tables.{less_one}
 use Rattle.twins.proofs.Laws.Areas.{edges_kept, ready_area}
 
@@ -64,7 +65,7 @@ module _ (n : ℕ) (area l : List ℕ) where
   over_front i =
       ap (λ (r : ℕ → ℕ → Bool). numbering (connected_at (marked_graph n area) (suc i)) r (n * n))
       (fun_ext (λ p. fun_ext (λ q.
-      agree_below rule (marked_graph n area) (suc i) (level_of n (front (built i) l)) (level_of n (built i)) (λ j h. front_level i j (omega arith))
+      agree_below rule rule_laws (marked_graph n area) (suc i) (level_of n (front (built i) l)) (level_of n (built i)) (λ j h. front_level i j (omega arith))
       (p / n) (p % n) (q / n) (q % n))))
 
   pub front_size : (k i : ℕ) → i ≤ k → k * (n * n) ≤ length l → length (front (built i) l) ≡ length l
@@ -81,8 +82,8 @@ module _ (n : ℕ) (area l : List ℕ) where
         room = rw (front_size k i (omega arith) r.levels_room) (omega (arith, mul-le-mul_right {m = suc i} {n = k} (n * n) h, r.levels_room));
         area_room = r.area_room;
         below = rw (less_one i)
-            (accepted_same rule (marked_graph n area) i (level_of n (built i)) (level_of n (front (built i) l)) (λ j b. sym (front_level i j b))
-            (written_accepted rule (marked_graph n area) i));
+            (accepted_same rule rule_laws (marked_graph n area) i (level_of n (built i)) (level_of n (front (built i) l)) (λ j b. sym (front_level i j b))
+            (written_accepted rule rule_laws (marked_graph n area) i));
       })
 
   built_more : (i : ℕ) → built (suc i) ≡ built i ++ level_over rule (marked_graph n area) (suc i) (built i)
@@ -110,10 +111,10 @@ module _ (n : ℕ) (area l : List ℕ) where
   over_top i =
       ap (λ (r : ℕ → ℕ → Bool). numbering (connected_at (marked_graph n area) (suc i)) r (n * n))
       (fun_ext (λ p. fun_ext (λ q.
-      agree_below rule (marked_graph n area) (suc i) (level_of n (front (built (suc i)) l)) (built_level rule (marked_graph n area))
+      agree_below rule rule_laws (marked_graph n area) (suc i) (level_of n (front (built (suc i)) l)) (built_level rule (marked_graph n area))
       (λ j h. front_level (suc i) j (omega arith) ∙ level_written rule (marked_graph n area) (suc i) j (omega arith))
       (p / n) (p % n) (q / n) (q % n))))
-      ∙ sym (level_is rule (marked_graph n area) i)
+      ∙ sym (level_is rule rule_laws (marked_graph n area) i)
 
   top_numbers : (i : ℕ) → 1 < suc i → level_of n (front (built i) l) i ≡ level_over rule (marked_graph n area) i (front (built i) l)
   top_numbers zero h = absurd (omega arith)

@@ -18,6 +18,7 @@ use Rattle.twins.specs.Standing.{Ready, base, is_in, alike}
 use Rattle.numbering.specs.Needs.{Begun}
 use Rattle.twins.proofs.Laws.Tables.{base_next}
 use Rattle.rules.proofs.Laws.Dense.{max_snoc}
+use Rattle.rules.proofs.Laws.Lawful.{rule_laws}
 use Rattle.numbering.proofs.Laws.Numbers.{numbering_more, next_le}
 
 -- what is written behind stays out of the front
@@ -47,7 +48,7 @@ module _ (n i : ℕ) (l area : List ℕ) (ready : Ready n i l area) where
     unfolding agree_at
     alike_kept =
         fun_ext (λ p. fun_ext (λ q.
-        agree_below rule (marked_graph n area) i (level_of n (put l (base n i) s)) (level_of n l)
+        agree_below rule rule_laws (marked_graph n area) i (level_of n (put l (base n i) s)) (level_of n l)
         (λ j h. level_kept n l (base n i) s j (below_base j h) (omega (arith, ends)))
         (p / n) (p % n) (q / n) (q % n)))
 
@@ -59,7 +60,7 @@ module _ (n i : ℕ) (l area : List ℕ) (ready : Ready n i l area) where
           short = ready.short;
           room = rw (length_put l (base n i) s h) ready.room;
           area_room = ready.area_room;
-          below = accepted_same rule (marked_graph n area) (i - 1) (level_of n l) (level_of n (put l (base n i) s))
+          below = accepted_same rule rule_laws (marked_graph n area) (i - 1) (level_of n l) (level_of n (put l (base n i) s))
               (λ j h. sym (level_kept n l (base n i) s j (below_base j (omega (arith, ready.some))) (omega (arith, ends)))) ready.below;
         }
 

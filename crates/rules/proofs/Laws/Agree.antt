@@ -9,7 +9,7 @@ use borrow.Author.Tests.{eqb-true, eq-eqb, ne_eqb}
 use lib.Dec.{eqb}
 use Rattle.rules.specs.Finite.{any_below, all_below}
 use Rattle.rules.specs.Graph.{Graph}
-use Rattle.rules.specs.Rule.{Rule}
+use Rattle.rules.specs.Rule.{Rule, RuleLaws}
 use Rattle.rules.specs.Levels.{number_at, same_ends, same_steps, is_twin, has_twin, twins, split_ok, agree}
 use Rattle.rules.specs.Published.{SameEnds, SameSteps}
 use Rattle.rules.proofs.Laws.Ends.{ends_refl, ends_sym, ends_trans, ends_find, ends_here, steps_refl, steps_sym, steps_trans, steps_find, steps_here}
@@ -128,11 +128,11 @@ module _ (ρ : Rule) (g : Graph) (i : ℕ) (T : ℕ → List ℕ) where
       }
 
 -- agreement looks at the levels below only
-pub agree_below : (ρ : Rule) (g : Graph) (i : ℕ) (S T : ℕ → List ℕ) → ((j : ℕ) → j < i → S j ≡ T j)
+pub agree_below : (ρ : Rule) (law : RuleLaws ρ) (g : Graph) (i : ℕ) (S T : ℕ → List ℕ) → ((j : ℕ) → j < i → S j ≡ T j)
     → (v u x y : ℕ) → agree ρ g i S v u x y ≡ agree ρ g i T v u x y
 unfolding agree split_ok
-agree_below ρ g i S T e v u x y =
+agree_below ρ law g i S T e v u x y =
     ap (λ (b : Bool). same_ends g v u x y && same_steps g v u x y && b)
     (all_same (ρ.many i) _ _ (λ c h.
     ap₂ (λ (s t : List ℕ). twins g.items s t v u x y && twins g.items s t x y v u)
-    (e (ρ.first i c) (ρ.first_below i c h)) (e (ρ.second i c) (ρ.second_below i c h))))
+    (e (ρ.first i c) (law.first_below i c h)) (e (ρ.second i c) (law.second_below i c h))))

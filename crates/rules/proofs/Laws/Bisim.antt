@@ -6,7 +6,7 @@ use native.Mathlib.Nat.{eq-zero-or-pos}
 use native.Mathlib.Omega.{arith}
 use Rattle.rules.specs.Graph.{Graph}
 use Rattle.rules.specs.Query.{Query, atom, join, both, diameter, meets}
-use Rattle.rules.specs.Rule.{Rule}
+use Rattle.rules.specs.Rule.{Rule, RuleLaws}
 use Rattle.rules.specs.Published.{Meets, WellFormed, Walk, SameEnds, SameSteps, Bisimilar, alike, Twin, twin}
 use Rattle.rules.proofs.Laws.Tests.{same}
 use Rattle.rules.proofs.Laws.Graph.{conn_le, conn_walk}
@@ -35,7 +35,7 @@ module _ {ρ : Rule} {g : Graph} where
       → Walk g v (ρ.first i c) m → Walk g m (ρ.second i c) u → IsTwin ρ g (ρ.first i c) (ρ.second i c) v m u x y
   bisim_there (alike a b t r) c m hc hm p q = twin_read (t c m hc hm p q)
 
-module _ (ρ : Rule) (g : Graph) where
+module _ (ρ : Rule) (law : RuleLaws ρ) (g : Graph) where
   refl_below : (n i v u : ℕ) → i < n → Bisimilar ρ g i v u v u
   refl_below zero i v u l = absurd (omega arith)
   refl_below (suc n) i v u l = alike (ends_refl g v u) (steps_refl g v u) (half (refl_below n)) (half (refl_below n))
@@ -43,7 +43,7 @@ module _ (ρ : Rule) (g : Graph) where
       half : ((i v u : ℕ) → i < n → Bisimilar ρ g i v u v u) → (c m : ℕ) → c < ρ.many i → m < g.items
           → Walk g v (ρ.first i c) m → Walk g m (ρ.second i c) u → Twin ρ g (ρ.first i c) (ρ.second i c) v m u v u
       half ih c m hc hm p q =
-          twin m hm p q (ih (ρ.first i c) v m (omega (arith, ρ.first_below i c hc))) (ih (ρ.second i c) m u (omega (arith, ρ.second_below i c hc)))
+          twin m hm p q (ih (ρ.first i c) v m (omega (arith, law.first_below i c hc))) (ih (ρ.second i c) m u (omega (arith, law.second_below i c hc)))
 
   pub bisim_refl : (i v u : ℕ) → Bisimilar ρ g i v u v u
   bisim_refl i v u = refl_below (suc i) i v u (omega arith)
@@ -61,13 +61,13 @@ module _ (ρ : Rule) (g : Graph) where
           let r = bisim_there a c m hc hm p q in
           let s = bisim_there b c r.0 hc r.1 r.2 r.3 in
           twin s.0 s.1 s.2 s.3
-          (ih (ρ.first i c) v m x r.0 z s.0 (omega (arith, ρ.first_below i c hc)) r.4 s.4)
-          (ih (ρ.second i c) m u r.0 y s.0 w (omega (arith, ρ.second_below i c hc)) r.5 s.5)
+          (ih (ρ.first i c) v m x r.0 z s.0 (omega (arith, law.first_below i c hc)) r.4 s.4)
+          (ih (ρ.second i c) m u r.0 y s.0 w (omega (arith, law.second_below i c hc)) r.5 s.5)
 
   pub bisim_trans : (i v u x y z w : ℕ) → Bisimilar ρ g i v u x y → Bisimilar ρ g i x y z w → Bisimilar ρ g i v u z w
   bisim_trans i v u x y z w a b = trans_below (suc i) i v u x y z w (omega arith) a b
 
-module _ (ρ : Rule) (g : Graph) where
+module _ (ρ : Rule) (law : RuleLaws ρ) (g : Graph) where
   -- Theorem 4.1: what a pair meets, a bisimilar pair meets
   pub bisim_carries : (q : Query) (i : ℕ) → 0 < i → WellFormed g.labels q → diameter q ≤ i
       → (v u x y : ℕ) → v < g.items → u < g.items → x < g.items → y < g.items → Bisimilar ρ g i v u x y → Meets g q v u → Meets g q x y
@@ -97,7 +97,7 @@ module _ (ρ : Rule) (g : Graph) where
       ))
       -- neither does: some split covers them, and the midpoint has a twin
       (λ (o₂ : 0 < diameter q₂).
-      let sp = ρ.covers i (diameter q₁) (diameter q₂) o₁ o₂ d in
+      let sp = law.covers i (diameter q₁) (diameter q₂) o₁ o₂ d in
       let c = sp.0 in
       let i₁ = ρ.first i c in
       let i₂ = ρ.second i c in
@@ -106,8 +106,8 @@ module _ (ρ : Rule) (g : Graph) where
       (conn_walk g i₂ m u (conn_le g (diameter q₂) i₂ m u sp.3 (meets_connected g q₂ m u w.1 r.1 r.3))) in (
         t.0,
         t.1,
-        bisim_carries q₁ i₁ (ρ.first_some i c sp.1) w.0 sp.2 v m x t.0 hv r.1 hx t.1 t.4 r.2,
-        bisim_carries q₂ i₂ (ρ.second_some i c sp.1) w.1 sp.3 m u t.0 y r.1 hu t.1 hy t.5 r.3,
+        bisim_carries q₁ i₁ (law.first_some i c sp.1) w.0 sp.2 v m x t.0 hv r.1 hx t.1 t.4 r.2,
+        bisim_carries q₂ i₂ (law.second_some i c sp.1) w.1 sp.3 m u t.0 y r.1 hu t.1 hy t.5 r.3,
       ))
       (eq-zero-or-pos (diameter q₂)))
       (eq-zero-or-pos (diameter q₁))

@@ -7,7 +7,7 @@ use mathlib.Core.Bool.{true}
 use native.Mathlib.Omega.{arith}
 use lib.ListN.{get_or}
 use Rattle.rules.specs.Graph.{Graph, connected}
-use Rattle.rules.specs.Rule.{Rule}
+use Rattle.rules.specs.Rule.{Rule, RuleLaws}
 use Rattle.rules.specs.Levels.{number_at, numbering, agree_at, connected_at, first_of, level_of, built_levels, built_level}
 use Rattle.rules.specs.Published.{Walk, Bisimilar}
 use Rattle.rules.specs.Accept.{number_ok, level_ok, LevelAccepted, LevelsAccepted}
@@ -66,21 +66,21 @@ class_ok ρ g i T own p h =
     (λ p q hp hq cp cq e. e) p h))
 
 -- acceptance looks at the levels 0 to k only
-pub accepted_same : (ρ : Rule) (g : Graph) (k : ℕ) (S T : ℕ → List ℕ) → ((i : ℕ) → i ≤ k → S i ≡ T i) → LevelsAccepted ρ g k S → LevelsAccepted ρ g k T
+pub accepted_same : (ρ : Rule) (law : RuleLaws ρ) (g : Graph) (k : ℕ) (S T : ℕ → List ℕ) → ((i : ℕ) → i ≤ k → S i ≡ T i) → LevelsAccepted ρ g k S → LevelsAccepted ρ g k T
 unfolding LevelsAccepted LevelAccepted level_ok number_ok agree_at
-accepted_same ρ g k S T e ok i h p hp =
+accepted_same ρ law g k S T e ok i h p hp =
     let n = g.items in
     let f = first_of (n * n) (T (suc i)) (get_or (T (suc i)) p 0) in
-    rw (← agree_below ρ g (suc i) S T (λ j l. e j (omega arith)) (p / n) (p % n) (f / n) (f % n), ← e (suc i) h) (ok i h p hp)
+    rw (← agree_below ρ law g (suc i) S T (λ j l. e j (omega arith)) (p / n) (p % n) (f / n) (f % n), ← e (suc i) h) (ok i h p hp)
 
-module _ (ρ : Rule) (g : Graph) where
+module _ (ρ : Rule) (law : RuleLaws ρ) (g : Graph) where
   pub builder_accepted : (k : ℕ) → LevelsAccepted ρ g k (built_level ρ g)
   unfolding LevelsAccepted
-  builder_accepted k i h = class_ok ρ g (suc i) (built_level ρ g) (level_is ρ g i)
+  builder_accepted k i h = class_ok ρ g (suc i) (built_level ρ g) (level_is ρ law g i)
 
   pub written_accepted : (k : ℕ) → LevelsAccepted ρ g k (level_of g.items (built_levels ρ g k))
   written_accepted k =
-      accepted_same ρ g k (built_level ρ g) (level_of g.items (built_levels ρ g k)) (λ i h. sym (level_written ρ g k i h)) (builder_accepted k)
+      accepted_same ρ law g k (built_level ρ g) (level_of g.items (built_levels ρ g k)) (λ i h. sym (level_written ρ g k i h)) (builder_accepted k)
 
   -- its classes are those of path-bisimulation
   pub level_ok_lem : (i : ℕ) → 0 < i → LevelAccepted ρ g i (built_level ρ g)
@@ -97,7 +97,7 @@ module _ (ρ : Rule) (g : Graph) where
       let T = built_level ρ g in
       let p = v * n + u in
       let q = x * n + y in
-      rw (level_is ρ g i)
+      rw (level_is ρ law g i)
       (class_at ρ g (suc i) T (n * n) p (place_lt n v u hv hu)
       ∙ class_related ρ g (suc i) T p q
       (rw (place_row n v u hu, place_column n v u hu) cp)
@@ -124,16 +124,16 @@ module _ (ρ : Rule) (g : Graph) where
             let T = built_level ρ g in
             let i₁ = ρ.first i c in
             let i₂ = ρ.second i c in
-            let p₁ = ρ.first_some i c hc in
-            let p₂ = ρ.second_some i c hc in
+            let p₁ = law.first_some i c hc in
+            let p₂ = law.second_some i c hc in
             let c₁ = number_connected ρ g i₁ T (level_ok_lem i₁ p₁) v m hv hm n₁ in
             let c₂ = number_connected ρ g i₂ T (level_ok_lem i₂ p₂) m u hm hu n₂ in
             let r = bisim_there b c m hc hm (conn_walk g i₁ v m c₁) (conn_walk g i₂ m u c₂) in
             let w = r.0 in (
               w,
               r.1,
-              agree_same i₁ v m x w p₁ hv hm hx r.1 c₁ (walk_conn g x r.2) (ih i₁ (omega (arith, ρ.first_below i c hc)) v m x w hv hm hx r.1 r.4),
-              agree_same i₂ m u w y p₂ hm hu r.1 hy c₂ (walk_conn g w r.3) (ih i₂ (omega (arith, ρ.second_below i c hc)) m u w y hm hu r.1 hy r.5),
+              agree_same i₁ v m x w p₁ hv hm hx r.1 c₁ (walk_conn g x r.2) (ih i₁ (omega (arith, law.first_below i c hc)) v m x w hv hm hx r.1 r.4),
+              agree_same i₂ m u w y p₂ hm hu r.1 hy c₂ (walk_conn g w r.3) (ih i₂ (omega (arith, law.second_below i c hc)) m u w y hm hu r.1 hy r.5),
             );
       }
 
@@ -148,6 +148,6 @@ module _ (ρ : Rule) (g : Graph) where
   same_number_bisim i v u x y o hv hu hx hy a b =
       let T = built_level ρ g in
       let ca = walk_conn g v a in (
-        λ e. accepted_bisim ρ g i T (builder_accepted i) i o (omega arith) v u x y hv hu hx hy e (connected_number ρ g i T (level_ok_lem i o) v u hv hu ca),
+        λ e. accepted_bisim ρ law g i T (builder_accepted i) i o (omega arith) v u x y hv hu hx hy e (connected_number ρ g i T (level_ok_lem i o) v u hv hu ca),
         λ d. agree_same i v u x y o hv hu hx hy ca (walk_conn g x b) (bisim_agree i v u x y hv hu hx hy d),
       )

@@ -9,7 +9,7 @@ use native.Mathlib.Omega.{arith}
 use lib.ListN.{length, get_or, take, drop, length-append}
 use lib.Seq.{get_or-drop, get_or-take, length-slice, take_all, take-append-le, drop_at}
 use Rattle.rules.specs.Graph.{Graph}
-use Rattle.rules.specs.Rule.{Rule}
+use Rattle.rules.specs.Rule.{Rule, RuleLaws}
 use Rattle.rules.specs.Levels.{number_at, numbering, connected_at, agree_at, level_of, stack, level_over, built_levels, built_level}
 use Rattle.rules.proofs.Laws.Numbering.{numbering_length}
 use Rattle.rules.proofs.Laws.Agree.{agree_below}
@@ -78,13 +78,14 @@ module _ (ρ : Rule) (g : Graph) where
   unfolding built_level built_levels
   level_written k i h = stack_written g.items (level_over ρ g) over_length k i h
 
+module _ (ρ : Rule) (law : RuleLaws ρ) (g : Graph) where
   -- the table of a level is the numbering over the tables of the levels below
   pub level_is : (i : ℕ) → built_level ρ g (suc i) ≡ numbering (connected_at g (suc i)) (agree_at ρ g (suc i) (built_level ρ g)) (g.items * g.items)
   unfolding built_level built_levels level_over agree_at
   level_is i =
-      stack_top g.items (level_over ρ g) over_length i
+      stack_top g.items (level_over ρ g) (over_length ρ g) i
       ∙ ap (λ (r : ℕ → ℕ → Bool). numbering (connected_at g (suc i)) r (g.items * g.items))
-      (fun_ext (λ p. fun_ext (λ q. agree_below ρ g (suc i) (level_of g.items (built_levels ρ g i)) (built_level ρ g) (λ j h. level_written i j (omega arith))
+      (fun_ext (λ p. fun_ext (λ q. agree_below ρ law g (suc i) (level_of g.items (built_levels ρ g i)) (built_level ρ g) (λ j h. level_written ρ g i j (omega arith))
       (p / g.items) (p % g.items) (q / g.items) (q % g.items))))
 
   pub level_length : (i : ℕ) → length (built_level ρ g (suc i)) ≡ g.items * g.items

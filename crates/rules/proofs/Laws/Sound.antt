@@ -11,7 +11,7 @@ use lib.ListN.{length, get_or}
 use Rattle.rules.specs.Finite.{first_below}
 use Rattle.rules.specs.Graph.{Graph, leads}
 use Rattle.rules.specs.Query.{Atom, identity, step, Query, atom, join, both, diameter, meets, meets_by, answer_by, answer_of, atom_by}
-use Rattle.rules.specs.Rule.{Rule}
+use Rattle.rules.specs.Rule.{Rule, RuleLaws}
 use Rattle.rules.specs.Levels.{number_at, max_of, first_of}
 use Rattle.rules.specs.Lists.{joins, joins_class, code_from, entries_up_to, entries_of}
 use Rattle.rules.specs.Published.{AtomFormed, WellFormed, Symbols, end, symbol}
@@ -54,7 +54,7 @@ module _ (g : Graph) (t entries : List ℕ) (sound : Sound g t entries) where
   sound_answer q w =
       list_same (g.items * g.items) _ _ (λ p h. sound_meets q w (p / g.items) (p % g.items) (row_lt g.items p h) (column_lt g.items p h))
 
-module _ (ρ : Rule) (g : Graph) (k : ℕ) (T : ℕ → List ℕ) (ok : LevelsAccepted ρ g k T) (pos : 0 < k) (few : g.labels ≤ 8)
+module _ (ρ : Rule) (law : RuleLaws ρ) (g : Graph) (k : ℕ) (T : ℕ → List ℕ) (ok : LevelsAccepted ρ g k T) (pos : 0 < k) (few : g.labels ≤ 8)
     (sized : length (T k) ≡ g.items * g.items) where
   -- what holds at the first pair of a class holds at each of its pairs
   pub first_joins : (ss : List ℕ) → Symbols g.labels ss → length ss ≤ k → (v u : ℕ) → v < g.items → u < g.items
@@ -70,7 +70,7 @@ module _ (ρ : Rule) (g : Graph) (k : ℕ) (T : ℕ → List ℕ) (ok : LevelsAc
       let ep : get_or t p 0 ≡ c = eqb-true (get_or t p 0) c f.passes in
       let ep' : get_or t (p / n * n + p % n) 0 ≡ c = rw div-add-mod' ep in
       sequence_joins g ss (p / n) (p % n)
-      ∙ sym (all_or_none ρ g k T ok (sequence ss) (sequence_formed g.labels y) pos (omega (arith, sequence_diameter ss))
+      ∙ sym (all_or_none ρ law g k T ok (sequence ss) (sequence_formed g.labels y) pos (omega (arith, sequence_diameter ss))
       v u (p / n) (p % n) hv hu (row_lt n p hp) (column_lt n p hp) (sym ep') l)
       ∙ sym (sequence_joins g ss v u)
 

@@ -15,6 +15,7 @@ use Rattle.rules.proofs.Laws.Calls.{passed}
 use Rattle.rules.proofs.Laws.Query.{meets_find, meets_here}
 use Rattle.rules.proofs.Laws.AllOrNone.{all_or_none_class}
 use Rattle.rules.proofs.Theorems.Acceptance.{accepted_exactly}
+use Rattle.rules.proofs.Laws.Lawful.{rule_laws}
 
 module _ (c : CheckCall) (ok : (check c).result ≡ Accepted) where
   -- a and b are positions of one class of the stored level-k table
@@ -28,7 +29,7 @@ module _ (c : CheckCall) (ok : (check c).result ≡ Accepted) where
       let g = check_graph c in
       let n = x.items in
       let r = (accepted_exactly c).0 ok in
-      let same = all_or_none_class rule g x.k (level_of n x.levels) r.1.levels q w (passed c r.0).levels.some_level d class p a b ha hb ea eb in (
+      let same = all_or_none_class rule rule_laws g x.k (level_of n x.levels) r.1.levels q w (passed c r.0).levels.some_level d class p a b ha hb ea eb in (
         λ m. meets_find g q (b / n) (b % n) (sym same ∙ meets_here g q (a / n) (a % n) m),
         λ m. meets_find g q (a / n) (a % n) (same ∙ meets_here g q (b / n) (b % n) m),
       )

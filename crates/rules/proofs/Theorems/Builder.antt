@@ -26,6 +26,7 @@ use Rattle.rules.proofs.Laws.ClassLists.{starts_length}
 use Rattle.rules.proofs.Laws.Entries.{Rising, none, more, up_rising}
 use Rattle.rules.proofs.Laws.Builder.{accepted_same, builder_accepted}
 use Rattle.rules.proofs.Theorems.Acceptance.{accepted_exactly}
+use Rattle.rules.proofs.Laws.Lawful.{rule_laws}
 
 refused_tables : {C : Type 0} {r : Refusal} {a b d : ℕ} → NotBuilt r ≡ Tables a b d → C
 refused_tables e = let z : ◌≡◌ {A = ℕ} 0 1 = cc in absurd (omega arith)
@@ -116,7 +117,7 @@ module _ (c : BuildCall) (classes pairs entries : ℕ) where
     unfolding handed_over starts_of entries_of graph_of
     conditions =
         record {
-          levels = accepted_same rule g c.k (built_level rule g) (level_of c.items (build c).levels) level_is_built (builder_accepted rule g c.k);
+          levels = accepted_same rule rule_laws g c.k (built_level rule g) (level_of c.items (build c).levels) level_is_built (builder_accepted rule rule_laws g c.k);
           starts = ap starts_of top_is_built ∙ sym (rw starts_are (front_take (starts_of top) c.starts (suc classes) (starts_length top (max_of top) ∙ ap suc counts.1)));
           order = ap order_of top_is_built ∙ sym (rw order_are (front_take (order_of top) c.order pairs counts.2));
           entries = ap (entries_of g c.k) top_is_built ∙ sym entries_cut;

@@ -25,16 +25,17 @@ use Rattle.rules.proofs.Laws.Bisim as B
 use Rattle.rules.proofs.Laws.Dense as D
 use Rattle.rules.proofs.Laws.ClassLists.{order_total}
 use Rattle.rules.proofs.Laws.Listing.{count_same}
+use Rattle.rules.proofs.Laws.Lawful.{rule_laws}
 
 -- path-bisimulation is an equivalence
 pub bisimilar_refl : (g : Graph) (i v u : ℕ) → Bisimilar rule g i v u v u
-bisimilar_refl g i v u = B.bisim_refl rule g i v u
+bisimilar_refl g i v u = B.bisim_refl rule rule_laws g i v u
 
 pub bisimilar_sym : (g : Graph) {i v u x y : ℕ} → Bisimilar rule g i v u x y → Bisimilar rule g i x y v u
 bisimilar_sym g b = B.bisim_sym b
 
 pub bisimilar_trans : (g : Graph) (i v u x y z w : ℕ) → Bisimilar rule g i v u x y → Bisimilar rule g i x y z w → Bisimilar rule g i v u z w
-bisimilar_trans g i v u x y z w a b = B.bisim_trans rule g i v u x y z w a b
+bisimilar_trans g i v u x y z w a b = B.bisim_trans rule rule_laws g i v u x y z w a b
 
 module _ (g : Graph) (i : ℕ) where
   abbrev table : List ℕ
@@ -43,7 +44,7 @@ module _ (g : Graph) (i : ℕ) where
   -- a pair has a number exactly if a walk of at most as many steps joins it
   pub number_walk : (v u : ℕ) → v < g.items → u < g.items → (0 < number_at g.items table v u) ↔ Walk g v (suc i) u
   number_walk v u hv hu =
-      let ok = level_ok_lem rule g (suc i) (omega arith) in (
+      let ok = level_ok_lem rule rule_laws g (suc i) (omega arith) in (
         λ l. conn_walk g (suc i) v u (number_connected rule g (suc i) (built_level rule g) ok v u hv hu l),
         λ w. connected_number rule g (suc i) (built_level rule g) ok v u hv hu (walk_conn g v w),
       )
@@ -51,11 +52,11 @@ module _ (g : Graph) (i : ℕ) where
   -- two connected pairs have one number exactly if they are path-bisimilar
   pub number_bisimilar : (v u x y : ℕ) → v < g.items → u < g.items → x < g.items → y < g.items → Walk g v (suc i) u → Walk g x (suc i) y
       → (number_at g.items table v u ≡ number_at g.items table x y) ↔ Bisimilar rule g (suc i) v u x y
-  number_bisimilar v u x y hv hu hx hy a b = same_number_bisim rule g (suc i) v u x y (omega arith) hv hu hx hy a b
+  number_bisimilar v u x y hv hu hx hy a b = same_number_bisim rule rule_laws g (suc i) v u x y (omega arith) hv hu hx hy a b
 
   next : (p : ℕ) → p < length table → get_or table p 0 ≤ suc (max_of (take p table))
   next p h =
-      (right_at rule g (suc i) (built_level rule g) (level_ok_lem rule g (suc i) (omega arith)) p (omega (arith, level_length rule g i))).next
+      (right_at rule g (suc i) (built_level rule g) (level_ok_lem rule rule_laws g (suc i) (omega arith)) p (omega (arith, level_length rule rule_laws g i))).next
 
   -- classes are numbered from 1: each number up to the largest is that of some pair
   pub number_used : (c : ℕ) → 0 < c → c ≤ max_of table → (p : ℕ) × (p < length table) × (get_or table p 0 ≡ c)
@@ -73,12 +74,12 @@ module _ (g : Graph) (i : ℕ) where
   pub pairs_counted : length (order_of table) ≡ count_below (g.items * g.items) (connected_at g (suc i))
   unfolding order_of
   pairs_counted =
-      order_total table ∙ ap (λ (n : ℕ). count_below n (λ p. ltb 0 (get_or table p 0))) (level_length rule g i)
+      order_total table ∙ ap (λ (n : ℕ). count_below n (λ p. ltb 0 (get_or table p 0))) (level_length rule rule_laws g i)
       ∙ count_same (g.items * g.items) (λ p. ltb 0 (get_or table p 0)) (connected_at g (suc i)) (λ p h. same_test p h)
     where
       same_test : (p : ℕ) → p < g.items * g.items → ltb 0 (get_or table p 0) ≡ connected_at g (suc i) p
       same_test p h =
-          let z = (right_at rule g (suc i) (built_level rule g) (level_ok_lem rule g (suc i) (omega arith)) p h).zeros in
+          let z = (right_at rule g (suc i) (built_level rule g) (level_ok_lem rule rule_laws g (suc i) (omega arith)) p h).zeros in
           same (ltb 0 (get_or table p 0)) (connected_at g (suc i) p)
           (λ t. not-false (connected_at g (suc i) p) (sym z ∙ ne_eqb (get_or table p 0) 0 (λ q. omega (arith, ltb-true 0 (get_or table p 0) t))))
           (λ t. ⊎_elim

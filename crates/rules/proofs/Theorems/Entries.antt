@@ -25,6 +25,7 @@ use Rattle.rules.proofs.Laws.Lookup.{rising_strict, rising_order}
 use Rattle.rules.proofs.Laws.Sound.{first_joins}
 use Rattle.rules.proofs.Laws.Calls.{passed, top_length}
 use Rattle.rules.proofs.Theorems.Acceptance.{accepted_exactly}
+use Rattle.rules.proofs.Laws.Lawful.{rule_laws}
 
 -- the test of a sequence is the published type
 module _ (g : Graph) where
@@ -76,5 +77,5 @@ class_joined c ok symbols y h v u hv hu l =
     let x = c.index in
     let r = (accepted_exactly c).0 ok in
     let p = passed c r.0 in
-    first_joins rule (check_graph c) x.k (level_of x.items x.levels) r.1.levels p.levels.some_level p.sizes_fit.labels_fit
+    first_joins rule rule_laws (check_graph c) x.k (level_of x.items x.levels) r.1.levels p.levels.some_level p.sizes_fit.labels_fit
     (top_length x p.levels.some_level p.tables) symbols y h v u hv hu l

@@ -24,6 +24,7 @@ use Rattle.rules.proofs.Laws.Calls.{passed, top_length}
 use Rattle.rules.proofs.Laws.Reading.{reading_formed}
 use Rattle.rules.proofs.Laws.Sound.{Sound, sound_answer, accepted_sound}
 use Rattle.rules.proofs.Theorems.Acceptance.{accepted_exactly}
+use Rattle.rules.proofs.Laws.Lawful.{rule_laws}
 
 -- a longer table: what stands past V² numbers is not looked at
 pub sound_longer : (g : Graph) (table entries : List ℕ) → Sound g (take (g.items * g.items) table) entries → Sound g table entries
@@ -49,7 +50,7 @@ accepted_tables_sound c ok table front =
     let g = check_graph c in
     let r = (accepted_exactly c).0 ok in
     let p = passed c r.0 in
-    let own = accepted_sound rule g x.k (level_of x.items x.levels) r.1.levels p.levels.some_level p.sizes_fit.labels_fit
+    let own = accepted_sound rule rule_laws g x.k (level_of x.items x.levels) r.1.levels p.levels.some_level p.sizes_fit.labels_fit
     (top_length x p.levels.some_level p.tables) in
     sound_longer g table x.entries (subst (λ (t : List ℕ). Sound g t x.entries) (sym front)
     (subst (λ (es : List ℕ). Sound g (level_of x.items x.levels x.k) es) r.1.entries own))

@@ -9,7 +9,7 @@ use borrow.Author.Tests.{eqb-true, eq-eqb}
 use lib.ListN.{length, get_or}
 use lib.Seq.{take_all}
 use Rattle.rules.specs.Graph.{Graph}
-use Rattle.rules.specs.Rule.{Rule}
+use Rattle.rules.specs.Rule.{Rule, RuleLaws}
 use Rattle.rules.specs.Levels.{number_at, connected_at, agree_at, numbering, built_level}
 use Rattle.rules.specs.Accept.{number_ok, level_ok, LevelAccepted, LevelsAccepted}
 use Rattle.rules.proofs.Laws.Accepted.{accepted_at, right_at, number_connected}
@@ -58,13 +58,13 @@ module _ (ρ : Rule) (g : Graph) (i : ℕ) (S T : ℕ → List ℕ) (s_ok : Leve
       })
 
 -- accepted classes are the builder's or finer: two pairs with one number in an accepted level have one number in the builder's
-pub accepted_or_finer : (ρ : Rule) (g : Graph) (k : ℕ) (T : ℕ → List ℕ) → LevelsAccepted ρ g k T → (i : ℕ) → 0 < i → i ≤ k
+pub accepted_or_finer : (ρ : Rule) (law : RuleLaws ρ) (g : Graph) (k : ℕ) (T : ℕ → List ℕ) → LevelsAccepted ρ g k T → (i : ℕ) → 0 < i → i ≤ k
     → (v u x y : ℕ) → v < g.items → u < g.items → x < g.items → y < g.items
     → number_at g.items (T i) v u ≡ number_at g.items (T i) x y → 0 < number_at g.items (T i) v u
     → number_at g.items (built_level ρ g i) v u ≡ number_at g.items (built_level ρ g i) x y
-accepted_or_finer ρ g k T ok i o b v u x y hv hu hx hy e l =
+accepted_or_finer ρ law g k T ok i o b v u x y hv hu hx hy e l =
     let right = accepted_at ρ g k T ok i o b in
-    agree_same ρ g i v u x y o hv hu hx hy
+    agree_same ρ law g i v u x y o hv hu hx hy
     (number_connected ρ g i T right v u hv hu l)
     (number_connected ρ g i T right x y hx hy (rw e at l))
-    (bisim_agree ρ g i v u x y hv hu hx hy (accepted_bisim ρ g k T ok i o b v u x y hv hu hx hy e l))
+    (bisim_agree ρ law g i v u x y hv hu hx hy (accepted_bisim ρ law g k T ok i o b v u x y hv hu hx hy e l))

@@ -16,6 +16,7 @@ use Rattle.rules.proofs.Laws.Graph.{conn_le}
 use Rattle.rules.proofs.Laws.Listing.{count_le}
 use Rattle.rules.proofs.Laws.Numbering.{max_bounds}
 use Rattle.rules.proofs.Laws.Places.{square_le}
+use Rattle.rules.proofs.Laws.Lawful.{rule_laws}
 use Rattle.twins.specs.Marks.{marked_graph}
 use Rattle.twins.specs.Standing.{Stands, Ready}
 use Rattle.twins.specs.Halves.{Searchable}
@@ -26,7 +27,7 @@ use Rattle.twins.proofs.Laws.Tables.{level_length}
 pub split_above : (i : ℕ) {count : ℕ} → count ≡ rule.many i → (count ≡ 0 → ⊥) → 1 < i
 split_above i many k =
     let h : 0 < rule.many i = omega (arith, many, k) in
-    omega (arith, rule.first_some i 0 h, rule.first_below i 0 h)
+    omega (arith, rule_laws.first_some i 0 h, rule_laws.first_below i 0 h)
 
 module _ (n i : ℕ) (levels area : List ℕ) (r : Ready n i levels area) where
   right : (j : ℕ) → 0 < j → j < i → LevelAccepted rule (marked_graph n area) j (level_of n levels)
@@ -73,7 +74,7 @@ module _ (n i : ℕ) (levels area : List ℕ) (r : Ready n i levels area) where
               record {
                 up = d.up;
                 few = d.few;
-                zeros = λ x p q. below_zero (rule.first i c) (rule.first_some i c l) (rule.first_below i c l) v x a (omega (arith, d.few)) (d.zeros x p q);
+                zeros = λ x p q. below_zero (rule.first i c) (rule_laws.first_some i c l) (rule_laws.first_below i c l) v x a (omega (arith, d.few)) (d.zeros x p q);
               };
         };
       }
@@ -86,8 +87,8 @@ module _ (n i : ℕ) (levels area : List ℕ) (r : Ready n i levels area) where
       rw (ea, eb)
       (record {
         few = omega (arith, few r.short);
-        first_stands = below_stands (rule.first i c) (rule.first_some i c h) (rule.first_below i c h);
-        second_stands = below_stands (rule.second i c) (rule.second_some i c h) (rule.second_below i c h);
-        small = below_small (rule.first i c) (rule.first_some i c h) (rule.first_below i c h);
+        first_stands = below_stands (rule.first i c) (rule_laws.first_some i c h) (rule_laws.first_below i c h);
+        second_stands = below_stands (rule.second i c) (rule_laws.second_some i c h) (rule_laws.second_below i c h);
+        small = below_small (rule.first i c) (rule_laws.first_some i c h) (rule_laws.first_below i c h);
         skips = k.skips c h;
       })

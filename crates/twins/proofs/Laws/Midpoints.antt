@@ -15,6 +15,7 @@ use Rattle.rules.specs.Levels.{number_at, level_of, same_ends, same_steps, twins
 use Rattle.rules.proofs.Laws.Agree.{Twins, twins_find, twins_here}
 use Rattle.rules.proofs.Laws.Finite.{all_at, all_intro}
 use Rattle.rules.proofs.Laws.Tests.{same, order, and_left, and_right, and_intro}
+use Rattle.rules.proofs.Laws.Lawful.{rule_laws}
 use Rattle.twins.specs.Marks.{marked_graph}
 use Rattle.twins.specs.Standing.{Ready}
 use Rattle.twins.specs.Halves.{midpoint_of, Halves, Listing, Midpoints, Held, has_same}
@@ -117,9 +118,9 @@ held_kept n i l l' list below h = record { room = h.room; listed = λ q e. kept 
                 record {
                   split = r.split;
                   before = r.before;
-                  half = rw (below (rule.first i r.split) (rule.first_below i r.split r.before), below (rule.second i r.split) (rule.second_below i r.split r.before)) r.half;
+                  half = rw (below (rule.first i r.split) (rule_laws.first_below i r.split r.before), below (rule.second i r.split) (rule_laws.second_below i r.split r.before)) r.half;
                 };
-            complete = λ d w h. rw (below (rule.first i d) (rule.first_below i d h), below (rule.second i d) (rule.second_below i d h)) (m.listing.complete d w h);
+            complete = λ d w h. rw (below (rule.first i d) (rule_laws.first_below i d h), below (rule.second i d) (rule_laws.second_below i d h)) (m.listing.complete d w h);
           };
         }
 
@@ -139,10 +140,10 @@ module _ (n i : ℕ) (levels : List ℕ) (v u x y k j : ℕ) (mine other : List 
   within_twins t c h = record { twin = twin }
     where
       small_first : (d : ℕ) → d < rule.many i → (w z : ℕ) → number_at n (first d) w z < 32768
-      small_first d l = hm.small (rule.first i d) (rule.first_some i d l) (rule.first_below i d l)
+      small_first d l = hm.small (rule.first i d) (rule_laws.first_some i d l) (rule_laws.first_below i d l)
 
       small_second : (d : ℕ) → d < rule.many i → (w z : ℕ) → number_at n (second d) w z < 32768
-      small_second d l = hm.small (rule.second i d) (rule.second_some i d l) (rule.second_below i d l)
+      small_second d l = hm.small (rule.second i d) (rule_laws.second_some i d l) (rule_laws.second_below i d l)
 
       twin : (m : ℕ) → m < n → 0 < number_at n (first c) v m → 0 < number_at n (second c) m u
           → (w : ℕ) × (w < n) × (number_at n (first c) v m ≡ number_at n (first c) x w) × (number_at n (second c) m u ≡ number_at n (second c) w y)

@@ -16,6 +16,7 @@ use Rattle.rules.proofs.Laws.Finite.{below_cases}
 use Rattle.rules.proofs.Laws.Places.{place_lt, row_lt, column_lt}
 use Rattle.rules.proofs.Laws.Agree.{Twins, Agree, agree_find}
 use Rattle.rules.proofs.Laws.Ends.{steps_here}
+use Rattle.rules.proofs.Laws.Lawful.{rule_laws}
 use Rattle.twins.specs.Marks.{marked_graph}
 use Rattle.twins.specs.Chains.{key_of, mix_of, hash_of, mid_hash, most_below, Raised, hash_at, Mosts, split_most, pair_most, four_of, most_of, bucket_of}
 use Rattle.twins.specs.Halves.{midpoint_of, Midpoints}
@@ -88,7 +89,7 @@ most_kept n i l l' below p =
   where
     split_kept : (k c : ℕ) → c < rule.many i → split_most n i l' (p / n) (p % n) k c ≡ split_most n i l (p / n) (p % n) k c
     split_kept k c h =
-        ap₂ (λ (s t : List ℕ). most_below n (mid_hash k n s t c (p / n) (p % n))) (below (rule.first i c) (rule.first_below i c h)) (below (rule.second i c) (rule.second_below i c h))
+        ap₂ (λ (s t : List ℕ). most_below n (mid_hash k n s t c (p / n) (p % n))) (below (rule.first i c) (rule_laws.first_below i c h)) (below (rule.second i c) (rule_laws.second_below i c h))
 
 module _ (n i : ℕ) (levels area : List ℕ) (bytes : (q : ℕ) → get_or area q 0 < 256) where
   -- twins both ways: one largest hash in each split

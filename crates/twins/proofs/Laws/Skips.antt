@@ -10,6 +10,7 @@ use lib.Seq.{get_or-set_same, get_or-set_other, get_or-take, get_or-drop, take-t
 use Rattle.rules.specs.Rule.{rule}
 use Rattle.rules.specs.Levels.{number_at, level_of}
 use Rattle.rules.proofs.Laws.Places.{place_lt, row_fits}
+use Rattle.rules.proofs.Laws.Lawful.{rule_laws}
 use Rattle.twins.specs.Skips.{Next, Skips, Laid, SkipRow, Aside}
 
 module _ (n : ℕ) (s : List ℕ) (v : ℕ) where
@@ -134,5 +135,5 @@ pub laid_kept : (n i : ℕ) (l l' w w' : List ℕ) → drop (6 * (n * n)) w' ≡
 laid_kept n i l l' w w' e z below k =
     record {
       room = rw z k.room;
-      skips = λ c h. rw (below (rule.first i c) (rule.first_below i c h)) (skips_kept n (level_of n l (rule.first i c)) w w' e z (k.skips c h));
+      skips = λ c h. rw (below (rule.first i c) (rule_laws.first_below i c h)) (skips_kept n (level_of n l (rule.first i c)) w w' e z (k.skips c h));
     }
