@@ -1,5 +1,5 @@
 -- The whole run of the program: the bytes of standard input to the bytes of standard output, as a machine that takes one byte after the other.
-use Rattle.std.specs.Prelude.{ℕ, suc, ◌+◌, ◌*◌, min, List, [], ◌∷◌, ◌++◌, Bool, true, false, cond, eqb, leb, ltb, length, take, replicate}
+use Rattle.std.specs.Prelude.{ℕ, suc, ◌*◌, min, List, [], ◌∷◌, ◌++◌, Bool, true, false, cond, eqb, leb, ltb, length, take, replicate}
 use Rattle.rules.specs.declared.Refusal.{Refusal}
 use Rattle.rules.specs.declared.Refusal.TheVariants.{Frame as FrameFault}
 use Rattle.rules.specs.declared.Built.{Built}

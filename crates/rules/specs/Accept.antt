@@ -1,5 +1,5 @@
 -- The written conditions of the check, and its first fault: 15, 16 and 17 with their values.
-use Rattle.std.specs.Prelude.{ℕ, zero, suc, ◌+◌, ◌*◌, ◌<◌, min, ◌≡◌, List, Bool, true, ◌&&◌, ◌||◌, not, cond, eqb, leb, ltb, length, get_or, take}
+use Rattle.std.specs.Prelude.{ℕ, zero, suc, ◌*◌, ◌<◌, min, ◌≡◌, List, Bool, true, ◌&&◌, ◌||◌, not, eqb, leb, ltb, length, get_or, take}
 use Rattle.std.specs.Bool.{beq}
 use Rattle.rules.specs.declared.Refusal.{Refusal}
 use Rattle.rules.specs.declared.Refusal.TheVariants.{LevelFault, ListFault, EntryFault}
@@ -8,7 +8,7 @@ use Rattle.rules.specs.Graph.{Graph}
 use Rattle.rules.specs.Rule.{Rule}
 use Rattle.rules.specs.Levels.{connected_at, agree_at, max_of, first_of, level_of, built_levels, built_level}
 use Rattle.rules.specs.Lists.{starts_of, order_of, entries_of}
-use Rattle.rules.specs.Verdict.{Verdict, good, refuse, ◌or_else◌, when}
+use Rattle.rules.specs.Verdict.{Verdict, good, ◌or_else◌, when}
 
 -- position p of a table t of n numbers is right: 0 exactly if p is not in, else at most one above the largest before it, and alike the first of its number
 unfoldable pub number_ok : (ℕ → Bool) → (ℕ → ℕ → Bool) → ℕ → List ℕ → ℕ → Bool

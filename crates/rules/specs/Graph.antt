@@ -1,5 +1,5 @@
 -- The edge table, the steps that it gives, and which items are connected within i.
-use Rattle.std.specs.Prelude.{ℕ, zero, suc, ◌+◌, ◌*◌, ◌/◌, ◌%◌, List, Bool, true, false, ◌&&◌, ◌||◌, cond, eqb, length, get_or}
+use Rattle.std.specs.Prelude.{ℕ, zero, suc, ◌+◌, ◌*◌, ◌/◌, ◌%◌, List, Bool, false, ◌&&◌, ◌||◌, cond, eqb, length, get_or}
 use Rattle.rules.specs.Finite.{any_below}
 
 -- items 0..V-1, labels 0..L-1, and whether some edge goes from v to u along label l

@@ -1,5 +1,5 @@
 -- For each entry: the call, and as functions of it the result and every lent buffer afterwards.
-use Rattle.std.specs.Prelude.{ℕ, zero, suc, pred, ◌+◌, ◌*◌, ◌/◌, List, [], ◌++◌, Bool, true, false, ◌||◌, not, cond, eqb, leb, ltb, length, get_or, take, drop}
+use Rattle.std.specs.Prelude.{ℕ, suc, pred, ◌*◌, ◌/◌, List, [], ◌++◌, ◌||◌, cond, eqb, leb, ltb, length, get_or, take, drop}
 use Rattle.std.proofs.Math.Seq.{slice}
 use Rattle.rules.specs.declared.Refusal.{Refusal}
 use Rattle.rules.specs.declared.Refusal.TheVariants.{EntryRoom, AnswerRoom, NoClass}
@@ -19,7 +19,7 @@ use Rattle.rules.specs.Rule.{rule}
 use Rattle.rules.specs.Levels.{max_of}
 use Rattle.rules.specs.Lists.{code_from}
 use Rattle.rules.specs.Stored.{part_from, part_to, stored_answer, class_answer}
-use Rattle.rules.specs.Verdict.{Verdict, good, refuse, ◌or_else◌, when, sizes, level_count, edge_count, edges_fit, room, well_read, query_of, within_diameter, few_symbols, known_symbols}
+use Rattle.rules.specs.Verdict.{Verdict, good, refuse, ◌or_else◌, sizes, level_count, edge_count, edges_fit, room, well_read, query_of, within_diameter, few_symbols, known_symbols}
 use Rattle.rules.specs.Accept.{Index, top_of, accepts, built_index}
 
 -- a list written at the front of a lent one; numbers past it never change

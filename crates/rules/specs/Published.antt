@@ -1,5 +1,5 @@
 -- The published definitions as types, beside the tests of the other files: source document 001, section III.B, Definitions 4.1 and 4.3, as document 01 writes them out.
-use Rattle.std.specs.Prelude.{ℕ, zero, suc, ◌+◌, ◌*◌, ◌/◌, ◌≤◌, ◌<◌, ◌≡◌, ◌↔◌, List, [], ◌∷◌, true, length, get_or}
+use Rattle.std.specs.Prelude.{ℕ, suc, ◌+◌, ◌*◌, ◌/◌, ◌≤◌, ◌<◌, ◌≡◌, ◌↔◌, List, [], ◌∷◌, true, length, get_or}
 use Rattle.rules.specs.Graph.{Graph}
 use Rattle.rules.specs.Rule.{Rule}
 use Rattle.rules.specs.Query.{Atom, identity, step, Query, atom, join, both}

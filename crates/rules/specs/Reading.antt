@@ -1,5 +1,5 @@
 -- How a token list is read, operands first, and which fault is found first.
-use Rattle.std.specs.Prelude.{ℕ, suc, ◌*◌, max, List, [], ◌∷◌, ◌++◌, Bool, ◌&&◌, cond, eqb, leb, ltb, length}
+use Rattle.std.specs.Prelude.{ℕ, suc, ◌*◌, max, List, [], ◌∷◌, ◌++◌, ◌&&◌, cond, eqb, leb, ltb, length}
 use Rattle.rules.specs.declared.Refusal.{Refusal}
 use Rattle.rules.specs.declared.Refusal.TheVariants.{QueryLength, Unknown as UnknownAt, FewOperands, NinthOperand, OperandsLeft}
 use Rattle.rules.specs.declared.Token.{Token}

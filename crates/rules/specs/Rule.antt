@@ -1,5 +1,5 @@
 -- Which midpoints condition C looks at: split c of level i asks for a first half of level `first i c` and a second half of level `second i c`.
-use Rattle.std.specs.Prelude.{ℕ, zero, suc, pred, ◌+◌, ◌-◌, ◌≤◌, ◌<◌}
+use Rattle.std.specs.Prelude.{ℕ, pred, ◌+◌, ◌-◌, ◌≤◌, ◌<◌}
 use Rattle.std.proofs.Common.{arith}
 
 pub record Rule : Type 0 where

@@ -1,5 +1,5 @@
 -- A refusal or none, and the tests that several entries share. An entry's order of refusals is a chain of these.
-use Rattle.std.specs.Prelude.{ℕ, suc, ◌+◌, ◌*◌, ◌/◌, ◌%◌, List, [], ◌∷◌, Bool, ◌||◌, ◌&&◌, not, cond, eqb, leb, ltb, length, get_or}
+use Rattle.std.specs.Prelude.{ℕ, ◌+◌, ◌*◌, ◌/◌, ◌%◌, List, Bool, ◌||◌, not, cond, eqb, leb, ltb, length, get_or}
 use Rattle.rules.specs.declared.Refusal.{Refusal}
 use Rattle.rules.specs.declared.Refusal.TheVariants.{Sizes, LevelCount, EdgeCount, Edge, Room, TooLong, Unknown}
 use Rattle.rules.specs.Finite.{first_below}

@@ -18,14 +18,13 @@ pub nonzero_rem-q : goal.nonzero_rem-q
 nonzero_rem-q c = some_items _ _ c.requires.1
 
 pub agree-requires : goal.agree-requires
-agree-requires c =
-    (
-      record { room = omega (arith, c.requires.0.area_room) },
-      record { first = row_lt _ _ c.requires.1; second = column_lt _ _ c.requires.1 },
-      record { first = row_lt _ _ c.requires.2; second = column_lt _ _ c.requires.2 },
-      c.midpoints-k.ensures.few,
-      c.kept_midpoints-j.ensures.0.few,
-    )
+agree-requires c = (
+  record { room = omega (arith, c.requires.0.area_room) },
+  record { first = row_lt _ _ c.requires.1; second = column_lt _ _ c.requires.1 },
+  record { first = row_lt _ _ c.requires.2; second = column_lt _ _ c.requires.2 },
+  c.midpoints-k.ensures.few,
+  c.kept_midpoints-j.ensures.0.few,
+)
 
 pub returns : goal.returns
 returns c = (c.agree.ensures _ _ c.midpoints-k.ensures c.kept_midpoints-j.ensures.0 ∙ at_is _ _ _ _ _ _, c.kept_midpoints-j.ensures.1)

@@ -36,17 +36,16 @@ pub overflow_add-result : goal.overflow_add-result
 overflow_add-result c = omega (arith, square_le c.requires.0.few, c.requires.2.small, c.requires.2.inside)
 
 pub returns-then-top-c : goal.returns-then-top-c
-returns-then-top-c c =
-    (
-      right_new _ _ _ _ _ (sym (place_get _ _ _ _ c.requires.0.some c.requires.2.inside)) c.requires.2.inside
-          (byte_set _ (c.requires.1.byte_at c.args.p c.requires.2.inside) c.if-area-n-eq0.false) c.if-c-eq0.false c.requires.2.largest c.if-top-c.true,
-      c.requires.5,
-    )
+returns-then-top-c c = (
+  right_new _ _ _ _ _ (sym (place_get _ _ _ _ c.requires.0.some c.requires.2.inside)) c.requires.2.inside
+      (byte_set _ (c.requires.1.byte_at c.args.p c.requires.2.inside) c.if-area-n-eq0.false) c.if-c-eq0.false c.requires.2.largest c.if-top-c.true,
+  c.requires.5,
+)
 
 pub agree_at-requires : goal.agree_at-requires
 agree_at-requires c =
     let is-first : c.word_at-q.result ≡ first_of (c.args.n * c.args.n) (level_of c.args.n c.args.levels.now c.args.i) (get_or (level_of c.args.n c.args.levels.now c.args.i) c.args.p 0) = first_read _ _ _ _ _ c.requires.3 _ c.if-c-eq0.false c.if-top-c.false c.word_at-q.ensures.0
-      ∙ ap (first_of (c.args.n * c.args.n) (level_of c.args.n c.args.levels.now c.args.i)) (sym (place_get _ _ _ _ c.requires.0.some c.requires.2.inside)) in
+    ∙ ap (first_of (c.args.n * c.args.n) (level_of c.args.n c.args.levels.now c.args.i)) (sym (place_get _ _ _ _ c.requires.0.some c.requires.2.inside)) in
     let h : c.word_at-q.result < c.args.n * c.args.n =
     rw is-first (first_of_lt (c.args.n * c.args.n) (level_of c.args.n c.args.levels.now c.args.i) c.args.p c.requires.2.inside) in (
       c.requires.0,
@@ -60,7 +59,7 @@ agree_at-requires c =
 pub returns : goal.returns
 returns c =
     let is-first : c.word_at-q.result ≡ first_of (c.args.n * c.args.n) (level_of c.args.n c.args.levels.now c.args.i) (get_or (level_of c.args.n c.args.levels.now c.args.i) c.args.p 0) = first_read _ _ _ _ _ c.requires.3 _ c.if-c-eq0.false c.if-top-c.false c.word_at-q.ensures.0
-      ∙ ap (first_of (c.args.n * c.args.n) (level_of c.args.n c.args.levels.now c.args.i)) (sym (place_get _ _ _ _ c.requires.0.some c.requires.2.inside)) in
+    ∙ ap (first_of (c.args.n * c.args.n) (level_of c.args.n c.args.levels.now c.args.i)) (sym (place_get _ _ _ _ c.requires.0.some c.requires.2.inside)) in
     let m = marked_graph c.args.n c.args.area.now in
     let T = level_of c.args.n c.args.levels.now in (
       right_agree _ _ _ _ _ (sym (place_get _ _ _ _ c.requires.0.some c.requires.2.inside)) (byte_set _ (c.requires.1.byte_at c.args.p c.requires.2.inside) c.if-area-n-eq0.false)

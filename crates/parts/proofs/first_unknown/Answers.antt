@@ -1,4 +1,3 @@
-use mathlib.Core.Bool.{false}
 use native.Mathlib.Omega.{arith}
 use Rattle.rules.proofs.Laws.Loops.{any_start}
 use Rattle.parts.proofs.Laws.Parts.{unknown_more, unknown_zero, unknown_large, unknown_none}

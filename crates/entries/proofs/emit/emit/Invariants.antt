@@ -5,8 +5,6 @@ use mathlib.Core.Bool.{Bool}
 use lib.ListN.{length}
 use Rattle.relations.specs.Relations.{Slot}
 use Rattle.entries.specs.Entries.{Went, Firsts, entries_rows}
-use Rattle.entries.proofs.Laws.Went as went
-use Rattle.entries.proofs.Laws.Emitting as emitting
 use Rattle.entries.proofs.emit.emit.Given as goal
 
 abbrev pub invariant-loop-v : goal.invariant-loop-v

@@ -36,8 +36,7 @@ overflow_add-result c =
 
 pub returns-then-stored-out-eq0 : goal.returns-then-stored-out-eq0
 returns-then-stored-out-eq0 c =
-    let few : c.count_row-some.result ≤ c.args.n = rw c.count_row-some.ensures (count_le (is_hit c.args.area.now (c.args.from + c.args.v * c.args.n) (8 * (c.args.n * c.args.n) + c.args.v * c.args.n) c.args.l) c.args.n) in
-    (
+    let few : c.count_row-some.result ≤ c.args.n = rw c.count_row-some.ensures (count_le (is_hit c.args.area.now (c.args.from + c.args.v * c.args.n) (8 * (c.args.n * c.args.n) + c.args.v * c.args.n) c.args.l) c.args.n) in (
       omega (arith, few),
       λ J s f. row_counted _ _ J _ _ _ _ _ c.requires.0 s f _ _ _ _ c.count_row-some.ensures (omega (arith, c.if-stored-out-eq0.true)),
     )

@@ -5,8 +5,6 @@ use mathlib.Core.Bool.{Bool}
 use lib.ListN.{length}
 use Rattle.relations.specs.Relations.{Slot}
 use Rattle.entries.specs.Entries.{Went, Firsts, entries_row}
-use Rattle.entries.proofs.Laws.Went as went
-use Rattle.entries.proofs.Laws.Emitting as emitting
 use Rattle.entries.proofs.emit.emit_row.Given as goal
 
 abbrev pub invariant-loop-u : goal.invariant-loop-u

@@ -21,8 +21,7 @@ pub bounds-area-at : goal.bounds-area-at
 bounds-area-at c = omega (arith, c.loop-p.invariant.2.frame.size)
 
 pub loop-p-preserved-then-most-x : goal.loop-p-preserved-then-most-x
-loop-p-preserved-then-most-x c =
-    (
+loop-p-preserved-then-most-x c = (
   omega arith,
   omega (arith, numbers.max_step c.args.table.now c.loop-p.p c.loop-p-test.true),
   areas.run_push _ _ _ _ _ 1 (omega arith) (emitting.first_yes c.args.table.now c.loop-p.p (omega arith)) c.loop-p.invariant.2,
@@ -35,8 +34,7 @@ pub bounds-area-at-in-loop-p : goal.bounds-area-at-in-loop-p
 bounds-area-at-in-loop-p c = omega (arith, c.loop-p.invariant.2.frame.size)
 
 pub loop-p-preserved : goal.loop-p-preserved
-loop-p-preserved c =
-    (
+loop-p-preserved c = (
   omega arith,
   omega (arith, numbers.max_step c.args.table.now c.loop-p.p c.loop-p-test.true),
   areas.run_push _ _ _ _ _ 0 (omega arith) (emitting.first_not c.args.table.now c.loop-p.p (omega arith)) c.loop-p.invariant.2,
@@ -46,8 +44,7 @@ pub shape_of-area : goal.shape_of-area
 shape_of-area c = c.loop-p.invariant.2.frame.size
 
 pub returns : goal.returns
-returns c =
-    (
+returns c = (
   areas.frame_wide _ _ _ _ _ _ (omega arith) (omega arith) c.loop-p.invariant.2.frame,
   record { mark = λ p h. c.loop-p.invariant.2.cells p (omega arith) },
 )

@@ -4,11 +4,8 @@ use mathlib.Core.Path.{◌≡◌}
 use mathlib.Core.Bool.{cond}
 use lib.ListN.{length, take}
 use Rattle.relations.specs.Relations.{Run}
-use Rattle.relations.proofs.Laws.Areas as areas
 use Rattle.entries.specs.Entries.{is_first}
 use Rattle.rules.specs.Levels.{max_of}
-use Rattle.entries.proofs.Laws.Emitting as emitting
-use Rattle.sorting.proofs.Laws.Numbers as numbers
 use Rattle.entries.proofs.emit.mark_firsts.Given as goal
 
 abbrev pub invariant-loop-p : goal.invariant-loop-p

@@ -44,18 +44,17 @@ has_bit-requires c = c.requires.3.label
 
 pub loop-u-preserved-then-not-has_bit : goal.loop-u-preserved-then-not-has_bit
 loop-u-preserved-then-not-has_bit c =
-    let inside : c.loop-u.u < c.args.n = omega (arith, c.loop-u-test.true, c.requires.2) in
-    (
-  omega arith,
-  omega arith,
-  omega (arith, c.loop-u.invariant.2),
-  c.loop-u.invariant.3,
-  λ J a m o s f w.
-      went.went_as _ _ _ _ _ _ _ _ _
-      (emitting.row_without c.args.n c.args.table.now J c.args.code c.args.v c.args.area.now f c.loop-u.u c.requires.0 inside c.args.from c.args.l s
-      (sym c.has_bit.ensures ∙ not-true _ (not_from_false _ c.if-not-has_bit.true)))
-      (c.loop-u.invariant.4 J a m o s f w),
-)
+    let inside : c.loop-u.u < c.args.n = omega (arith, c.loop-u-test.true, c.requires.2) in (
+      omega arith,
+      omega arith,
+      omega (arith, c.loop-u.invariant.2),
+      c.loop-u.invariant.3,
+      λ J a m o s f w.
+          went.went_as _ _ _ _ _ _ _ _ _
+          (emitting.row_without c.args.n c.args.table.now J c.args.code c.args.v c.args.area.now f c.loop-u.u c.requires.0 inside c.args.from c.args.l s
+          (sym c.has_bit.ensures ∙ not-true _ (not_from_false _ c.if-not-has_bit.true)))
+          (c.loop-u.invariant.4 J a m o s f w),
+    )
 
 pub overflow_add-firsts : goal.overflow_add-firsts
 overflow_add-firsts c =
@@ -71,17 +70,16 @@ bounds-area-firsts c =
 
 pub loop-u-preserved-then-area-firsts-eq0 : goal.loop-u-preserved-then-area-firsts-eq0
 loop-u-preserved-then-area-firsts-eq0 c =
-    let inside : c.loop-u.u < c.args.n = omega (arith, c.loop-u-test.true, c.requires.2) in
-    (
-  omega arith,
-  omega arith,
-  omega (arith, c.loop-u.invariant.2),
-  c.loop-u.invariant.3,
-  λ J a m o s f w.
-      went.went_as _ _ _ _ _ _ _ _ _
-      (emitting.row_later c.args.n c.args.table.now J c.args.code c.args.v c.args.area.now f c.loop-u.u c.requires.0 inside c.if-area-firsts-eq0.true)
-      (c.loop-u.invariant.4 J a m o s f w),
-)
+    let inside : c.loop-u.u < c.args.n = omega (arith, c.loop-u-test.true, c.requires.2) in (
+      omega arith,
+      omega arith,
+      omega (arith, c.loop-u.invariant.2),
+      c.loop-u.invariant.3,
+      λ J a m o s f w.
+          went.went_as _ _ _ _ _ _ _ _ _
+          (emitting.row_later c.args.n c.args.table.now J c.args.code c.args.v c.args.area.now f c.loop-u.u c.requires.0 inside c.if-area-firsts-eq0.true)
+          (c.loop-u.invariant.4 J a m o s f w),
+    )
 
 pub offset_bounds-table-p : goal.offset_bounds-table-p
 offset_bounds-table-p c =
@@ -100,18 +98,17 @@ put-done-requires c = omega (arith, c.loop-u.invariant.2, c.requires.3.few)
 
 pub loop-u-preserved : goal.loop-u-preserved
 loop-u-preserved c =
-    let inside : c.loop-u.u < c.args.n = omega (arith, c.loop-u-test.true, c.requires.2) in
-    (
-  omega arith,
-  omega arith,
-  omega (arith, c.loop-u.invariant.2, c.put-done.ensures.0),
-  c.put-done.ensures.1.size ∙ c.loop-u.invariant.3,
-  λ J a m o s f w.
-      went.went_as _ _ _ _ _ _ _ _ _
-      (emitting.row_with c.args.n c.args.table.now J c.args.code c.args.v c.args.area.now f c.loop-u.u c.requires.0 inside c.args.from c.args.l s
-      c.if-area-firsts-eq0.false (sym c.has_bit.ensures ∙ not-false _ (not_from_true _ c.if-not-has_bit.false)))
-      (went.went_trans _ _ _ _ _ _ _ _ _ _ _ _ (c.loop-u.invariant.4 J a m o s f w) c.put-done.ensures.1),
-)
+    let inside : c.loop-u.u < c.args.n = omega (arith, c.loop-u-test.true, c.requires.2) in (
+      omega arith,
+      omega arith,
+      omega (arith, c.loop-u.invariant.2, c.put-done.ensures.0),
+      c.put-done.ensures.1.size ∙ c.loop-u.invariant.3,
+      λ J a m o s f w.
+          went.went_as _ _ _ _ _ _ _ _ _
+          (emitting.row_with c.args.n c.args.table.now J c.args.code c.args.v c.args.area.now f c.loop-u.u c.requires.0 inside c.args.from c.args.l s
+          c.if-area-firsts-eq0.false (sym c.has_bit.ensures ∙ not-false _ (not_from_true _ c.if-not-has_bit.false)))
+          (went.went_trans _ _ _ _ _ _ _ _ _ _ _ _ (c.loop-u.invariant.4 J a m o s f w) c.put-done.ensures.1),
+    )
 
 pub shape_of-out : goal.shape_of-out
 shape_of-out c = c.loop-u.invariant.3

@@ -6,8 +6,6 @@ use mathlib.Core.List.{List}
 use lib.ListN.{length}
 use Rattle.relations.specs.Relations.{Slot}
 use Rattle.entries.specs.Entries.{Went, Firsts, entries_row}
-use Rattle.entries.proofs.Laws.Went as went
-use Rattle.entries.proofs.Laws.Emitting as emitting
 use Rattle.entries.proofs.emit.put_places.Given as goal
 
 abbrev pub invariant-loop-u : goal.invariant-loop-u

@@ -24,13 +24,13 @@ identity-requires c = (c.requires.small, omega (arith, c.requires.area))
 pub emit-done-requires : goal.emit-done-requires
 emit-done-requires c =
     record {
-  small = c.requires.small;
-  label = omega arith;
-  square = c.requires.square;
-  few = omega (arith, square_le c.requires.small);
-  room = omega (arith, c.requires.area, c.identity.ensures.0.size);
-  area = omega (arith, c.requires.area, c.identity.ensures.0.size);
-}
+      small = c.requires.small;
+      label = omega arith;
+      square = c.requires.square;
+      few = omega (arith, square_le c.requires.small);
+      room = omega (arith, c.requires.area, c.identity.ensures.0.size);
+      area = omega (arith, c.requires.area, c.identity.ensures.0.size);
+    }
 
 pub loop-j-init : goal.loop-j-init
 loop-j-init c = (omega arith, omega arith, areas.frame_refl _ _ _, refl, λ es h f m. went.went_as _ _ _ _ _ _ _ _ _ (listed.longer_none _ _ _) (went.went_none _ _ _ _))
@@ -41,22 +41,21 @@ overflow_add-j c = omega (arith, c.requires.short)
 pub walk-done-requires : goal.walk-done-requires
 walk-done-requires c =
     record {
-  labelled = c.requires.labelled;
-  small = c.requires.small;
-  square = c.requires.square;
-  deep = omega arith;
-  few = omega (arith, c.loop-j.invariant.1, c.emit-done.ensures.0, square_le c.requires.small, c.requires.short, bounds.weight_small (c.loop-j.j + 1) (omega (arith, c.requires.short)));
-  coded = bounds.codes_small (c.loop-j.j + 1) (omega (arith, c.requires.short));
-  room = omega (arith, bounds.blocks_small (c.loop-j.j + 1) (c.args.n * c.args.n) (omega (arith, c.requires.short)));
-  area = omega (arith, c.requires.area, c.identity.ensures.0.size, c.loop-j.invariant.2.size);
-}
+      labelled = c.requires.labelled;
+      small = c.requires.small;
+      square = c.requires.square;
+      deep = omega arith;
+      few = omega (arith, c.loop-j.invariant.1, c.emit-done.ensures.0, square_le c.requires.small, c.requires.short, bounds.weight_small (c.loop-j.j + 1) (omega (arith, c.requires.short)));
+      coded = bounds.codes_small (c.loop-j.j + 1) (omega (arith, c.requires.short));
+      room = omega (arith, bounds.blocks_small (c.loop-j.j + 1) (c.args.n * c.args.n) (omega (arith, c.requires.short)));
+      area = omega (arith, c.requires.area, c.identity.ensures.0.size, c.loop-j.invariant.2.size);
+    }
 
 pub overflow_add-j-in-loop-j : goal.overflow_add-j-in-loop-j
 overflow_add-j-in-loop-j c = omega (arith, c.requires.short)
 
 pub loop-j-preserved : goal.loop-j-preserved
-loop-j-preserved c =
-    (
+loop-j-preserved c = (
   omega arith,
   omega (arith, c.loop-j.invariant.1, c.walk-done.ensures.0, c.requires.short, bounds.weight_small (c.loop-j.j + 1) (omega (arith, c.requires.short))),
   areas.frame_trans _ _ _ _ _ c.loop-j.invariant.2 (areas.frame_wide _ _ _ _ _ _ (omega arith) (omega arith) c.walk-done.ensures.1),

@@ -4,14 +4,10 @@ use mathlib.Core.Path.{◌≡◌}
 use mathlib.Core.List.{List}
 use lib.ListN.{length}
 use Rattle.relations.specs.Relations.{Frame, Marked}
-use Rattle.relations.proofs.Laws.Areas as areas
 use Rattle.entries.specs.Entries.{Went, Firsts}
-use Rattle.entries.proofs.Laws.Went as went
 use Rattle.rules.specs.Levels.{max_of}
 use Rattle.rules.specs.Graph.{graph_of}
 use Rattle.sorting.specs.Sort.{Contiguous}
-use Rattle.sequences.proofs.Laws.Walking as walking
-use Rattle.sequences.proofs.Laws.Bounds as bounds
 use Rattle.lists.proofs.Laws.Lengths as listed
 use Rattle.lists.proofs.listing.lengths.Given as goal
 

@@ -1,6 +1,5 @@
 -- `machine::stages::on_edge` meets its contract.
 use native.Mathlib.Omega.{arith}
-use Rattle.machine.specs.Machine.{bad_frame}
 use Rattle.machine.proofs.Laws.Stages.{comes_as, edge_more, edge_over, edge_opening, edge_answering, edge_stopped}
 use Rattle.machine.proofs.stages.on_edge.Goals as goal
 

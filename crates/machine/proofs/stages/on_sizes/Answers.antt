@@ -1,5 +1,4 @@
 -- `machine::stages::on_sizes` meets its contract.
-use Rattle.machine.specs.Machine.{bad_frame}
 use Rattle.machine.proofs.Laws.Stages.{comes_as, sizes_begun, sizes_over, sizes_gathering, sizes_answering, sizes_stopped}
 use Rattle.machine.proofs.stages.on_sizes.Goals as goal
 

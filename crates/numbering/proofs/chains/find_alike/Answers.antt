@@ -48,11 +48,10 @@ pub shape_of-other-then-agree : goal.shape_of-other-then-agree
 shape_of-other-then-agree c = c.kept_midpoints-j.ensures.1.room ∙ sym c.requires.7.room
 
 pub returns-then-agree : goal.returns-then-agree
-returns-then-agree c =
-    (
-      walk_found _ _ _ _ _ _ _ c.loop-at-test.true c.loop-at.invariant.0 (c.agree.ensures _ _ c.kept_midpoints-j.ensures.0 c.requires.6) c.if-agree.true,
-      c.kept_midpoints-j.ensures.1,
-    )
+returns-then-agree c = (
+  walk_found _ _ _ _ _ _ _ c.loop-at-test.true c.loop-at.invariant.0 (c.agree.ensures _ _ c.kept_midpoints-j.ensures.0 c.requires.6) c.if-agree.true,
+  c.kept_midpoints-j.ensures.1,
+)
 
 pub overflow_mul-q : goal.overflow_mul-q
 overflow_mul-q c = omega (arith, (walk_met _ _ _ _ _ _ _ c.loop-at-test.true c.loop-at.invariant.0).before)
@@ -67,11 +66,10 @@ pub loop-at-smaller : goal.loop-at-smaller
 loop-at-smaller c = walk_less _ _ _ _ _ _ _ c.loop-at-test.true c.loop-at.invariant.0 c.word_at-at-in-loop-at.ensures.0
 
 pub loop-at-preserved : goal.loop-at-preserved
-loop-at-preserved c =
-    (
-      walk_next _ _ _ _ _ _ _ c.loop-at-test.true c.loop-at.invariant.0 (c.agree.ensures _ _ c.kept_midpoints-j.ensures.0 c.requires.6) c.if-agree.false c.word_at-at-in-loop-at.ensures.0,
-      c.kept_midpoints-j.ensures.1,
-    )
+loop-at-preserved c = (
+  walk_next _ _ _ _ _ _ _ c.loop-at-test.true c.loop-at.invariant.0 (c.agree.ensures _ _ c.kept_midpoints-j.ensures.0 c.requires.6) c.if-agree.false c.word_at-at-in-loop-at.ensures.0,
+  c.kept_midpoints-j.ensures.1,
+)
 
 pub shape_of-other : goal.shape_of-other
 shape_of-other c = c.loop-at.invariant.1.room ∙ sym c.requires.7.room

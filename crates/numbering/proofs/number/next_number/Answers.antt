@@ -41,9 +41,8 @@ pub overflow_add-result-2 : goal.overflow_add-result-2
 overflow_add-result-2 c = omega (arith, square_le c.requires.0.few, c.requires.2.small)
 
 pub returns : goal.returns
-returns c =
-    (
-      taken_new _ _ _ _ _ _ c.requires.2 c.requires.3 c.requires.4 (byte_set _ (c.requires.1.byte_at c.args.p c.requires.3) c.if-area-n-eq0.false) _ c.find_alike-q.ensures.0
-          _ _ c.requires.0.area_room (c.bucket-b.ensures.0 _ _ c.midpoints-k.ensures, c.bucket-b.ensures.1) c.if-q-p.false c.add_head.ensures,
-      c.find_alike-q.ensures.1,
-    )
+returns c = (
+  taken_new _ _ _ _ _ _ c.requires.2 c.requires.3 c.requires.4 (byte_set _ (c.requires.1.byte_at c.args.p c.requires.3) c.if-area-n-eq0.false) _ c.find_alike-q.ensures.0
+      _ _ c.requires.0.area_room (c.bucket-b.ensures.0 _ _ c.midpoints-k.ensures, c.bucket-b.ensures.1) c.if-q-p.false c.add_head.ensures,
+  c.find_alike-q.ensures.1,
+)

@@ -1,7 +1,7 @@
 use mathlib.Core.Path.{refl, sym, ap, ◌∙◌}
 use native.Mathlib.Omega.{arith}
 use borrow.Author.Rules.{rules}
-use borrow.Author.Tests.{ltb-true, ltb-false}
+use borrow.Author.Tests.{ltb-false}
 use Rattle.tokens.specs.Waiting.{read_of}
 use Rattle.tokens.specs.declared.reading.Read.TheVariants.{Refused}
 use Rattle.tokens.proofs.Laws.Waiting.{now_takes, refused_takes}
@@ -15,7 +15,7 @@ unfolding read_of
 returns-then-tokens-eq0 c =
     let a = c.args in
     elim c.then-tokens-eq0.branch [
-        then-tokens-eq0-via-then-tokens-eq0 w ↦ ap read_of (sym (read_none a.labels a.tokens.now w.if-tokens-eq0.true))
+      | then-tokens-eq0-via-then-tokens-eq0 w ↦ ap read_of (sym (read_none a.labels a.tokens.now w.if-tokens-eq0.true))
       | then-tokens-eq0-via-else-tokens-eq0+then-tokens-gt64 w ↦ ap read_of (sym (read_long a.labels a.tokens.now w.if-tokens-gt64.true))
     ]
 

@@ -12,5 +12,5 @@ returns-then-not-same_steps c = λ i levels hm ho. agree_steps _ _ _ _ _ _ _ _ c
 
 pub returns : goal.returns
 returns c =
-        λ i levels hm ho. agree_lists _ _ i levels _ _ _ _ _ _ _ _ hm ho (c.same_ends.ensures _) (not_from_true _ c.if-not-same_ends.false) c.same_steps.ensures (not_from_true _ c.if-not-same_steps.false)
+    λ i levels hm ho. agree_lists _ _ i levels _ _ _ _ _ _ _ _ hm ho (c.same_ends.ensures _) (not_from_true _ c.if-not-same_ends.false) c.same_steps.ensures (not_from_true _ c.if-not-same_steps.false)
     c.same_midpoints.ensures

@@ -10,7 +10,7 @@ pub loop-m-init : goal.loop-m-init
 loop-m-init c = (omega arith, halves_start _ _ _ _ _ _ _ _ c.requires.2, refl)
 
 pub next_from-w-requires : goal.next_from-w-requires
-next_from-w-requires c =     (c.requires.0.skips.room, record { first = c.requires.1.first; second = c.loop-m-test.true })
+next_from-w-requires c = (c.requires.0.skips.room, record { first = c.requires.1.first; second = c.loop-m-test.true })
 
 pub loop-m-smaller-then-w-m : goal.loop-m-smaller-then-w-m
 loop-m-smaller-then-w-m c =
@@ -20,11 +20,11 @@ loop-m-smaller-then-w-m c =
 pub loop-m-preserved-then-w-m : goal.loop-m-preserved-then-w-m
 loop-m-preserved-then-w-m c =
     let ahead : Next c.args.n (level_of c.args.n c.args.levels.now c.args.first) c.args.v c.loop-m.m c.next_from-w.result = rw c.next_from-w.ensures (c.requires.0.skips.next_at _ _ c.requires.1.first c.loop-m-test.true) in
-        let l = c.loop-m in
+    let l = c.loop-m in
     (ahead.few, halves_skip _ _ _ _ _ _ _ _ _ _ _ l.invariant.1 _ ahead, l.invariant.2)
 
 pub number_at-b-requires : goal.number_at-b-requires
-number_at-b-requires c =     (c.requires.0.second_stands, record { first = omega (arith, c.if-w-m.false, c.loop-m-test.true); second = c.requires.1.second })
+number_at-b-requires c = (c.requires.0.second_stands, record { first = omega (arith, c.if-w-m.false, c.loop-m-test.true); second = c.requires.1.second })
 
 pub loop-m-preserved-then-b-eq0 : goal.loop-m-preserved-then-b-eq0
 loop-m-preserved-then-b-eq0 c =
@@ -32,7 +32,7 @@ loop-m-preserved-then-b-eq0 c =
     (omega arith, halves_second _ _ _ _ _ _ _ _ _ _ _ l.invariant.1 (rw c.if-w-m.false at c.number_at-b.ensures) c.if-b-eq0.true, l.invariant.2)
 
 pub number_at-a-requires : goal.number_at-a-requires
-number_at-a-requires c =     (c.requires.0.first_stands, record { first = c.requires.1.first; second = omega (arith, c.if-w-m.false, c.loop-m-test.true) })
+number_at-a-requires c = (c.requires.0.first_stands, record { first = c.requires.1.first; second = omega (arith, c.if-w-m.false, c.loop-m-test.true) })
 
 pub loop-m-preserved-then-a-eq0 : goal.loop-m-preserved-then-a-eq0
 loop-m-preserved-then-a-eq0 c =

@@ -4,8 +4,7 @@ use Rattle.twins.proofs.Laws.Signature.{listed_most}
 use Rattle.twins.proofs.hashes.most_at.Goals as goal
 
 pub returns : goal.returns
-returns c =
-    (
-      λ n i p levels h. listed_most n i levels p _ _ h c.most_of-m.ensures.0,
-      omega (arith, c.most_of-m.ensures.1.none, c.most_of-m.ensures.1.quarter, c.most_of-m.ensures.1.half, c.most_of-m.ensures.1.most),
-    )
+returns c = (
+  λ n i p levels h. listed_most n i levels p _ _ h c.most_of-m.ensures.0,
+  omega (arith, c.most_of-m.ensures.1.none, c.most_of-m.ensures.1.quarter, c.most_of-m.ensures.1.half, c.most_of-m.ensures.1.most),
+)

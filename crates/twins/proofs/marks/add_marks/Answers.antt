@@ -23,7 +23,7 @@ pub overflow_cast-u : goal.overflow_cast-u
 overflow_cast-u c = omega (arith, c.shared_slice_known-in-loop-e-2-1.given (3 * c.loop-e.e + 1))
 
 pub label_bit-b-requires : goal.label_bit-b-requires
-label_bit-b-requires c =     c.requires.0.label c.loop-e.e c.loop-e-test.true
+label_bit-b-requires c = c.requires.0.label c.loop-e.e c.loop-e-test.true
 
 pub overflow_mul-p : goal.overflow_mul-p
 overflow_mul-p c =
@@ -48,7 +48,7 @@ bounds-area-p-in-loop-e c =
 pub loop-e-preserved : goal.loop-e-preserved
 loop-e-preserved c =
     let inside : get_or c.args.edges.now (3 * c.loop-e.e) 0 * c.args.n + get_or c.args.edges.now (3 * c.loop-e.e + 1) 0 < c.args.n * c.args.n = place_lt _ _ _ (c.requires.0.source c.loop-e.e c.loop-e-test.true) (c.requires.0.target c.loop-e.e c.loop-e-test.true) in
-        let i = inside in (
+    let i = inside in (
       omega arith,
       simp length-set c.loop-e.invariant.1,
       rw drop-set-lt c.loop-e.invariant.2,

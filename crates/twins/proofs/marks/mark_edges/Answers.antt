@@ -8,7 +8,7 @@ use Rattle.twins.proofs.Laws.Areas.{cleared, drop_fill_at}
 use Rattle.twins.proofs.marks.mark_edges.Goals as goal
 
 pub add_marks-requires : goal.add_marks-requires
-add_marks-requires c =     (c.requires.0, cleared _ _ _ c.clear_marks.ensures c.requires.1.room)
+add_marks-requires c = (c.requires.0, cleared _ _ _ c.clear_marks.ensures c.requires.1.room)
 
 pub returns : goal.returns
 returns c =

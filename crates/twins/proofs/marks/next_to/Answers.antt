@@ -6,7 +6,7 @@ pub returns-then-v-u : goal.returns-then-v-u
 returns-then-v-u c = near_self _ _ _ _ c.if-v-u.true
 
 pub returns-then-mark_at-ne0 : goal.returns-then-mark_at-ne0
-returns-then-mark_at-ne0 c =     near_first _ _ _ _ c.requires.1.first c.requires.1.second c.mark_at.ensures c.if-mark_at-ne0.true
+returns-then-mark_at-ne0 c = near_first _ _ _ _ c.requires.1.first c.requires.1.second c.mark_at.ensures c.if-mark_at-ne0.true
 
 pub returns : goal.returns
-returns c =     near_rest _ _ _ _ c.requires.1.first c.requires.1.second c.if-v-u.false c.mark_at.ensures c.if-mark_at-ne0.false c.mark_at-2.ensures
+returns c = near_rest _ _ _ _ c.requires.1.first c.requires.1.second c.if-v-u.false c.mark_at.ensures c.if-mark_at-ne0.false c.mark_at-2.ensures

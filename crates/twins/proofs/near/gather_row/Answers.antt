@@ -14,7 +14,7 @@ loop-m-preserved-then-number_at-eq0 c =
     (omega arith, reached_same _ _ _ _ _ c.number_at.ensures _ l.invariant.1 c.if-number_at-eq0.true, l.invariant.2)
 
 pub add_row-requires : goal.add_row-requires
-add_row-requires c =     (one_stands _ _ _ c.requires.0, c.loop-m-test.true, c.loop-m.invariant.1.room)
+add_row-requires c = (one_stands _ _ _ c.requires.0, c.loop-m-test.true, c.loop-m.invariant.1.room)
 
 pub loop-m-preserved : goal.loop-m-preserved
 loop-m-preserved c =

@@ -5,7 +5,7 @@ use Rattle.twins.proofs.Laws.Skips.{laid_none}
 use Rattle.twins.proofs.skips.lay_out.Goals as goal
 
 pub returns-then-splits-eq0 : goal.returns-then-splits-eq0
-returns-then-splits-eq0 c =     laid_none _ _ _ _ c.splits.ensures.0 c.if-splits-eq0.true c.requires.area_room
+returns-then-splits-eq0 c = laid_none _ _ _ _ c.splits.ensures.0 c.if-splits-eq0.true c.requires.area_room
 
 pub skip_rows-requires : goal.skip_rows-requires
 skip_rows-requires c =
