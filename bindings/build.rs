@@ -27,12 +27,12 @@ fn link() {
     let package = PathBuf::from(env!("CARGO_MANIFEST_DIR"));
     let directory = match env::var_os("KAVIZHURAN_LIB_DIR") {
         Some(named) => env::current_dir().unwrap_or_default().join(named),
-        None => package.join("../target/staticlib"),
+        None => package.join("../crates/abi/out"),
     };
     let archive = directory.join("libabi.a");
     if !archive.is_file() {
         panic!(
-            "there is no {}: make it with `rt staticlib abi` at the top of the repository, or \
+            "there is no {}: make it with `tools/library` at the top of the repository, or \
              set KAVIZHURAN_LIB_DIR to the folder that has libabi.a",
             archive.display()
         );

@@ -30,8 +30,8 @@ INLINE int has(row r, unsigned i) { return r.w[i >> 6] >> (i & 63) & 1; }
 
 INLINE kv_result result(uint32_t number, uint32_t a, uint32_t b, uint32_t c) { return (kv_result){number, a, b, c}; }
 
-/* Clearing and copying. glibc takes rep stosb and rep movsb above 2 KB on x86-64, which the kit's emulator does byte by byte
-   (500 us for the area); 16 bytes at a time is about as fast on a real processor and good under the emulator too. */
+/* Clearing and copying. glibc takes rep stosb and rep movsb above 2 KB on x86-64, which an emulator may do byte by byte
+   (500 us for the area); 16 bytes at a time is about as fast on a real processor and good under an emulator too. */
 #ifdef __x86_64__
 typedef uint64_t pack __attribute__((vector_size(16), aligned(1), may_alias));
 static void clear(void *to, size_t n) {
