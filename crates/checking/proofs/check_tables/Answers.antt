@@ -9,8 +9,8 @@ check_levels-verdict-requires c = let p = c.requires in (level_edges _ p, level_
 pub returns-in_default : goal.returns-in_default
 returns-in_default c =
     let p = c.requires in
-    let v = c.check_levels-verdict.ensures in
-    (levels_refused _ p _ c.in_default.field-0 (v.verdict _ (few_labels _ p) (level_labels _ p)) c.in_default.is, past_frame _ _ _ v.past.size v.past.rest)
+    let fault = c.check_levels-verdict.ensures in
+    (levels_refused _ p _ c.in_default.field-0 (fault.verdict _ (few_labels _ p) (level_labels _ p)) c.in_default.is, past_frame _ _ _ fault.past.size fault.past.rest)
 
 pub top_of-requires : goal.top_of-requires
 top_of-requires c = standing _ c.requires

@@ -31,8 +31,8 @@ offset_bounds-levels-start c =
 
 pub bounds-levels-start : goal.bounds-levels-start
 bounds-levels-start c =
-    let place : c.args.m * c.args.n + c.loop-u.u < c.args.n * c.args.n = place_lt _ _ _ c.requires.1 c.loop-u-test.true in
-    omega (arith, place, c.requires.0.room)
+    let there : c.args.m * c.args.n + c.loop-u.u < c.args.n * c.args.n = place_lt _ _ _ c.requires.1 c.loop-u-test.true in
+    omega (arith, there, c.requires.0.room)
 
 pub offset_bounds-row-u-in-loop-u : goal.offset_bounds-row-u-in-loop-u
 offset_bounds-row-u-in-loop-u c = omega (arith, c.loop-u.invariant.2)
