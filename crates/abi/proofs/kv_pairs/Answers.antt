@@ -8,7 +8,7 @@ use Rattle.abi.proofs.kv_pairs.Goals as goal
 
 pub returns : goal.returns
 returns c =
-    let known = c.shared_slice_known-1.given in
+    let known = c.type_inv.starts in
     record {
       result =
           c.hand_bounds.ensures

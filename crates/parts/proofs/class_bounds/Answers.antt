@@ -17,10 +17,10 @@ pub returns-then-starts-at : goal.returns-then-starts-at
 returns-then-starts-at c = record { bounds = class_past _ _ _ c.if-at-eq0.false c.if-starts-at.true }
 
 pub overflow_cast-from : goal.overflow_cast-from
-overflow_cast-from c = omega (arith, c.shared_slice_known-1.given (c.args.c - 1))
+overflow_cast-from c = omega (arith, c.type_inv.starts (c.args.c - 1))
 
 pub overflow_cast-to : goal.overflow_cast-to
-overflow_cast-to c = omega (arith, c.shared_slice_known-2-1.given c.args.c)
+overflow_cast-to c = omega (arith, c.type_inv.starts c.args.c)
 
 pub returns-then-to-from : goal.returns-then-to-from
 returns-then-to-from c = record { bounds = class_disordered _ _ _ c.if-at-eq0.false c.if-starts-at.false c.if-to-from.true }

@@ -12,14 +12,14 @@ overflow_mul-code c = omega (arith, code_small c.loop-i.code c.loop-i.i 0 (omega
 pub overflow_add-code : goal.overflow_add-code
 overflow_add-code c =
     let l = c.loop-i in
-    omega (arith, (code_small l.code l.i c.wide.result (omega arith) l.invariant.2 (omega (arith, c.wide.ensures, c.shared_slice_known-in-loop-i-1.given l.i))).0)
+    omega (arith, (code_small l.code l.i c.wide.result (omega arith) l.invariant.2 (omega (arith, c.wide.ensures, c.type_inv.symbols l.i))).0)
 
 pub loop-i-preserved : goal.loop-i-preserved
 loop-i-preserved c =
     let l = c.loop-i in (
       omega arith,
       rw c.wide.ensures (code_more _ l.code l.i _ c.loop-i-test.true l.invariant.1),
-      (code_small l.code l.i c.wide.result (omega arith) l.invariant.2 (omega (arith, c.wide.ensures, c.shared_slice_known-in-loop-i-1.given l.i))).1,
+      (code_small l.code l.i c.wide.result (omega arith) l.invariant.2 (omega (arith, c.wide.ensures, c.type_inv.symbols l.i))).1,
     )
 
 pub returns : goal.returns

@@ -21,7 +21,7 @@ mark_at-back-requires c = (record { room = omega arith }, record { first = colum
 
 pub returns : goal.returns
 returns c =
-    let bytes : (q : ℕ) → get_or c.args.area.now q 0 < 256 = λ q. omega (arith, c.shared_slice_known-1.given q) in (
+    let bytes : (q : ℕ) → get_or c.args.area.now q 0 < 256 = λ q. omega (arith, c.type_inv.area q) in (
       λ i levels h. (bucket_is _ _ _ _ _ c.requires.2 bytes c.mark_at-there.ensures.0 c.mark_at-back.ensures.0 (c.most_at-h.ensures.0 _ i _ levels h)).0,
       mod-lt _ (omega (arith, c.requires.2)),
     )

@@ -76,5 +76,5 @@ shape_of-other c = c.loop-at.invariant.1.room ∙ sym c.requires.7.room
 
 pub returns : goal.returns
 returns c =
-    let bytes : (q : ℕ) → get_or c.args.area.now q 0 < 256 = λ q. omega (arith, c.shared_slice_known-2-1.given q) in
+    let bytes : (q : ℕ) → get_or c.args.area.now q 0 < 256 = λ q. omega (arith, c.type_inv.area q) in
     (walk_none _ _ _ _ _ _ c.requires.4 c.requires.1 c.requires.2 bytes c.loop-at.invariant.0 c.loop-at-test.false, c.loop-at.invariant.1)

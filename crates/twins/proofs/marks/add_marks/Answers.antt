@@ -17,10 +17,10 @@ unfolding any_below
 loop-e-init c = (omega arith, refl, refl, λ q l i j. ap (bit_at l) (c.requires.1.zero_at q i) ∙ bit_zero l)
 
 pub overflow_cast-v : goal.overflow_cast-v
-overflow_cast-v c = omega (arith, c.shared_slice_known-in-loop-e-1.given (3 * c.loop-e.e))
+overflow_cast-v c = omega (arith, c.type_inv.edges (3 * c.loop-e.e))
 
 pub overflow_cast-u : goal.overflow_cast-u
-overflow_cast-u c = omega (arith, c.shared_slice_known-in-loop-e-2-1.given (3 * c.loop-e.e + 1))
+overflow_cast-u c = omega (arith, c.type_inv.edges (3 * c.loop-e.e + 1))
 
 pub label_bit-b-requires : goal.label_bit-b-requires
 label_bit-b-requires c = c.requires.0.label c.loop-e.e c.loop-e-test.true

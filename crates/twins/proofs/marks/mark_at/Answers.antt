@@ -15,4 +15,4 @@ pub bounds-area-v : goal.bounds-area-v
 bounds-area-v c = omega (arith, place_lt _ _ _ c.requires.1.first c.requires.1.second)
 
 pub returns : goal.returns
-returns c = (refl, omega (arith, c.shared_slice_known-1.given (c.args.v * c.args.n + c.args.u)))
+returns c = (refl, omega (arith, c.type_inv.area (c.args.v * c.args.n + c.args.u)))

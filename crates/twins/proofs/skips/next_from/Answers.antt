@@ -17,4 +17,4 @@ pub bounds-area-n : goal.bounds-area-n
 bounds-area-n c = omega (arith, place_lt _ _ _ c.requires.1.first c.requires.1.second)
 
 pub overflow_cast-result : goal.overflow_cast-result
-overflow_cast-result c = omega (arith, c.shared_slice_known-1.given (8 * (c.args.n * c.args.n) + (c.args.v * c.args.n + c.args.m)))
+overflow_cast-result c = omega (arith, c.type_inv.area (8 * (c.args.n * c.args.n) + (c.args.v * c.args.n + c.args.m)))
