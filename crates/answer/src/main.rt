@@ -4,7 +4,7 @@
 
 #![tactic(auto)]
 
-ghost use Rattle.std.specs.Prelude.{◌≡◌, ℕ, ◌-◌, ◌^◌, ◌<◌, List, length, take, cond, IfOk, OnOk, IfSome};
+ghost use Rattle.std.specs.Prelude.{◌≡◌, ℕ, ◌-◌, ◌^◌, ◌<◌, List, length, take, cond, IfOk, OnOk, OnErr, IfSome};
 ghost use Rattle.std.specs.Io.KnownBytes.{Appends, Consumes, IsAtEnd};
 ghost use Rattle.machine.specs.Machine.{feed, run};
 ghost use Rattle.machine.specs.Standing.{stage_of, machine_of, Stands};
@@ -16,7 +16,8 @@ use lines::feeding;
 use machine::{State, bytes};
 use std::io::{Read, Result, Write};
 
-// What came in one read: each text is written before the next byte is taken.
+// What came in one read: each text is written before the next byte is taken. An error here and below is the reader's or the writer's, and leaves
+// lent lists that still have the room that the call asks for.
 fn print_all<W: Write>(
     writer: &mut W,
     s: State,
@@ -30,6 +31,7 @@ fn print_all<W: Write>(
     requires { Stands s × (length part.old ≡ 512) × Rooms edges.old levels.old entries.old out.old }
     ensures machine { IfOk result (λ t. Stands t × (machine_of t part.new edges.new levels.new entries.new ≡ (feed (machine_of s part.old edges.old levels.old entries.old) input.now).machine)) }
     ensures written { OnOk result (Appends (W.contents writer.old) (W.contents writer.new) (feed (machine_of s part.old edges.old levels.old entries.old) input.now).text) }
+    ensures err { OnErr result ((length part.new ≡ 512) × Rooms edges.new levels.new entries.new out.new) }
 {
     let mut t = s;
     let mut at: usize = 0;
@@ -79,6 +81,7 @@ fn read_once<R: Read, W: Write>(
     ensures read { IfOk result (λ t. Consumes (R.remaining reader.old) (R.remaining reader.new) (take t.got buffer.new)) }
     ensures end { IfOk result (λ t. t.got ≡ 0 → 0 < length buffer.new → IsAtEnd (R.remaining reader.new)) }
     ensures written { IfOk result (λ t. Appends (W.contents writer.old) (W.contents writer.new) (feed (machine_of s part.old edges.old levels.old entries.old) (take t.got buffer.new)).text) }
+    ensures err { OnErr result ((length part.new ≡ 512) × Rooms edges.new levels.new entries.new out.new) }
 {
     let got = reader.read(buffer)?;
     let state = print_all(writer, s, &buffer[..got], part, edges, levels, entries, out)?;
@@ -108,6 +111,7 @@ fn read_all<R: Read, W: Write>(
     requires { (length part.old ≡ 512) × Rooms edges.old levels.old entries.old out.old }
     ensures machine { IfOk result (λ s. Stands s × Behind (machine_of s part.new edges.new levels.new entries.new)) }
     ensures moved { IfOk result (λ s. Moves (R.remaining reader.old) (R.remaining reader.new) (W.contents writer.old) (W.contents writer.new) (machine_of s part.new edges.new levels.new entries.new) 0) }
+    ensures err { OnErr result ((length part.new ≡ 512) × Rooms edges.new levels.new entries.new out.new) }
 {
     let mut buffer = [0u8; 4096];
     let mut s = bytes::start();
@@ -143,6 +147,7 @@ fn run<R: Read, W: Write>(
     requires { (length part.old ≡ 512) × Rooms edges.old levels.old entries.old out.old }
     ensures ends { IfOk result (λ many. Ends many out.new) }
     ensures moved { IfOk result (λ many. Runs (R.remaining reader.old) (R.remaining reader.new) (W.contents writer.old) (W.contents writer.new) (take many out.new)) }
+    ensures err { OnErr result ((length part.new ≡ 512) × Rooms edges.new levels.new entries.new out.new) }
 {
     let s = read_all(reader, writer, part, edges, levels, entries, out)?;
     Ok(feeding::finish(s, part, edges, levels, entries, out))
