@@ -81,7 +81,7 @@ fn read_once<R: Read, W: Write>(
     ensures read { IfOk result (λ t. Consumes (R.remaining reader.old) (R.remaining reader.new) (take t.got buffer.new)) }
     ensures end { IfOk result (λ t. t.got ≡ 0 → 0 < length buffer.new → IsAtEnd (R.remaining reader.new)) }
     ensures written { IfOk result (λ t. Appends (W.contents writer.old) (W.contents writer.new) (feed (machine_of s part.old edges.old levels.old entries.old) (take t.got buffer.new)).text) }
-    ensures err { OnErr result ((length part.new ≡ 512) × Rooms edges.new levels.new entries.new out.new) }
+    ensures err { OnErr result ((length buffer.new ≡ length buffer.old) × (length part.new ≡ 512) × Rooms edges.new levels.new entries.new out.new) }
 {
     let got = reader.read(buffer)?;
     let state = print_all(writer, s, &buffer[..got], part, edges, levels, entries, out)?;

@@ -27,6 +27,7 @@ pub mod Lookup
 pub mod Sequences
 pub mod Sound
 pub mod ClassAnswer
+pub mod ClassCount
 pub mod ClassLists
 pub mod Walks
 pub mod Tokens

@@ -24,6 +24,6 @@ check_lists-requires c =
 pub returns : goal.returns
 returns c =
     let p = c.requires in
-    let v = c.check_levels-verdict.ensures in
+    let levels = c.check_levels-verdict.ensures in
     let l = c.check_lists.ensures in
-    (lists_decide _ p _ _ (told_good _ _ (v.verdict _ (few_labels _ p) (level_labels _ p)) c.in-Accepted.is) c.top_of.ensures l.0, frame_trans 0 _ _ _ _ (past_frame _ _ _ v.past.size v.past.rest) l.1)
+    (lists_decide _ p _ _ (told_good _ _ (levels.verdict _ (few_labels _ p) (level_labels _ p)) c.in-Accepted.is) c.top_of.ensures l.0, frame_trans 0 _ _ _ _ (past_frame _ _ _ levels.past.size levels.past.rest) l.1)

@@ -1,11 +1,5 @@
 -- Five ways, a law each: class 0, past the starts, bounds out of order, past the order list, or the part.
 use Prim.Native.Nat.{◌-◌}
-use Prim.Native.Nat.{◌-◌}
-use Prim.Native.Nat.{◌-◌}
-use Prim.Native.Nat.{◌-◌}
-use Prim.Native.Nat.{◌-◌}
-use Prim.Native.Nat.{◌-◌}
-use Prim.Native.Nat.{◌-◌}
 use native.Mathlib.Omega.{arith}
 use Rattle.parts.proofs.Laws.Parts.{class_zero, class_past, class_disordered, class_outside, class_inside}
 use Rattle.parts.proofs.class_bounds.Goals as goal

@@ -1,6 +1,6 @@
 -- Tables whose numbers are each at most one above the largest before: every number from 1 to the largest occurs, and first positions ascend with their numbers.
 use Prim.Native.Nat.{ℕ, zero, suc, ◌≤◌, ◌<◌, max}
-use mathlib.Core.Path.{◌≡◌, refl, sym, ap, ◌∙◌, subst}
+use mathlib.Core.Path.{◌≡◌, refl, ap, ◌∙◌, subst}
 use mathlib.Core.Logic.{⊎_elim}
 use mathlib.Core.List.{List, [], ◌∷◌, ◌++◌}
 use mathlib.Core.Bool.{true, false, ◌&&◌}
@@ -10,12 +10,11 @@ use borrow.Author.Tests.{eqb-true, eq-eqb, lt-ltb, ltb-true}
 use lib.Dec.{eqb, ltb}
 use lib.ListN.{length, get_or, take}
 use lib.Seq.{take-suc, take_all, get_or-take}
-use Rattle.rules.specs.Finite.{first_below, count_below}
+use Rattle.rules.specs.Finite.{first_below}
 use Rattle.rules.specs.Levels.{max_of, first_of}
 use Rattle.rules.specs.Stored.{leader}
 use Rattle.rules.proofs.Laws.Tests.{order, and_left, and_right, and_intro, not_true_of}
 use Rattle.rules.proofs.Laws.Finite.{first_is, first_le}
-use Rattle.rules.proofs.Laws.Listing.{count_skip, count_add}
 use Rattle.rules.proofs.Laws.Numbering.{max_bounds}
 
 pub max_snoc : (l : List ℕ) (x : ℕ) → max_of (l ++ (x ∷ [])) ≡ max (max_of l) x
@@ -25,7 +24,7 @@ max_snoc (y ∷ l) x = omega (arith, max_snoc l x)
 
 module _ (t : List ℕ) (next : (p : ℕ) → p < length t → get_or t p 0 ≤ suc (max_of (take p t))) where
   -- the largest of one more
-  max_more : (m : ℕ) → m < length t → max_of (take (suc m) t) ≡ max (max_of (take m t)) (get_or t m 0)
+  pub max_more : (m : ℕ) → m < length t → max_of (take (suc m) t) ≡ max (max_of (take m t)) (get_or t m 0)
   max_more m h = ap max_of (take-suc t m 0 h) ∙ max_snoc (take m t) (get_or t m 0)
 
   -- every number up to the largest of the first m occurs among them
@@ -56,7 +55,7 @@ module _ (t : List ℕ) (next : (p : ℕ) → p < length t → get_or t p 0 ≤ 
       omega (arith, s.1, first_le n (λ q. eqb (get_or t q 0) c) s.0 (omega (arith, s.1, f.below)) (eq-eqb (get_or t s.0 0) c s.2))
 
   -- a position whose number is new is the first of it
-  new_leader : (p : ℕ) → p < length t → max_of (take p t) < get_or t p 0 → leader (length t) t p ≡ true
+  pub new_leader : (p : ℕ) → p < length t → max_of (take p t) < get_or t p 0 → leader (length t) t p ≡ true
   unfolding leader first_of
   new_leader p h l =
       let n = length t in
@@ -74,7 +73,7 @@ module _ (t : List ℕ) (next : (p : ℕ) → p < length t → get_or t p 0 ≤ 
       before_max p a l = subst (λ (x : ℕ). x ≤ max_of (take p t)) (get_or-take p t a 0 l) (max_bounds (take p t) a)
 
   -- one whose number is 0 or was there before is not
-  old_leader : (p : ℕ) → p < length t → get_or t p 0 ≤ max_of (take p t) → leader (length t) t p ≡ false
+  pub old_leader : (p : ℕ) → p < length t → get_or t p 0 ≤ max_of (take p t) → leader (length t) t p ≡ false
   unfolding leader first_of
   old_leader p h l =
       let n = length t in
@@ -86,20 +85,3 @@ module _ (t : List ℕ) (next : (p : ℕ) → p < length t → get_or t p 0 ≤ 
       let q : a ≡ p = eqb-true a p (and_right (ltb 0 c) (eqb a p) e) in
       let s = occurs_before p (omega arith) c pos l in
       omega (arith, q, s.1, first_le n (λ q. eqb (get_or t q 0) c) s.0 (omega (arith, s.1)) (eq-eqb (get_or t s.0 0) c s.2)))
-
-  -- the largest number is the number of first pairs
-  counted : (m : ℕ) → m ≤ length t → count_below m (leader (length t) t) ≡ max_of (take m t)
-  counted zero h = start t
-    where
-      start : (t : List ℕ) → count_below 0 (leader (length t) t) ≡ max_of (take 0 t)
-      start t = unfold count_below max_of in refl
-  counted (suc m) h =
-      ⊎_elim
-      (λ (l : max_of (take m t) < get_or t m 0).
-      count_add (leader (length t) t) m (new_leader m h l) ∙ omega (arith, counted m (omega arith), max_more m h, next m h))
-      (λ (l : get_or t m 0 ≤ max_of (take m t)).
-      count_skip (leader (length t) t) m (old_leader m h l) ∙ omega (arith, counted m (omega arith), max_more m h))
-      (order (max_of (take m t)) (get_or t m 0))
-
-  pub classes_counted : max_of t ≡ count_below (length t) (leader (length t) t)
-  classes_counted = sym (counted (length t) (omega arith) ∙ ap max_of (take_all (length t) t (omega arith)))

@@ -22,6 +22,7 @@ use Rattle.rules.proofs.Laws.Levels.{level_length}
 use Rattle.rules.proofs.Laws.Accepted.{right_at, connected_number, number_connected}
 use Rattle.rules.proofs.Laws.Builder.{level_ok_lem, same_number_bisim}
 use Rattle.rules.proofs.Laws.Bisim as B
+use Rattle.rules.proofs.Laws.ClassCount as C
 use Rattle.rules.proofs.Laws.Dense as D
 use Rattle.rules.proofs.Laws.ClassLists.{order_total}
 use Rattle.rules.proofs.Laws.Listing.{count_same}
@@ -68,7 +69,7 @@ module _ (g : Graph) (i : ℕ) where
 
   -- C is the number of classes, counted by their first pairs
   pub classes_counted : max_of table ≡ count_below (length table) (leader (length table) table)
-  classes_counted = D.classes_counted table next
+  classes_counted = C.classes_counted table next
 
   -- the order list has one number for each pair that is connected within i
   pub pairs_counted : length (order_of table) ≡ count_below (g.items * g.items) (connected_at g (suc i))

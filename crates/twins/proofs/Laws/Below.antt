@@ -11,7 +11,7 @@ use Rattle.rules.specs.Levels.{number_at, level_of, max_of}
 use Rattle.rules.specs.Stored.{leader}
 use Rattle.rules.specs.Accept.{LevelAccepted}
 use Rattle.rules.proofs.Laws.Accepted.{accepted_at, right_at, connected_number, number_connected}
-use Rattle.rules.proofs.Laws.Dense.{classes_counted}
+use Rattle.rules.proofs.Laws.ClassCount.{classes_counted}
 use Rattle.rules.proofs.Laws.Graph.{conn_le}
 use Rattle.rules.proofs.Laws.Listing.{count_le}
 use Rattle.rules.proofs.Laws.Numbering.{max_bounds}
