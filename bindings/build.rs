@@ -27,7 +27,7 @@ fn link() {
     let package = PathBuf::from(env!("CARGO_MANIFEST_DIR"));
     let directory = match env::var_os("KAVIZHURAN_LIB_DIR") {
         Some(named) => env::current_dir().unwrap_or_default().join(named),
-        None => package.join("../crates/abi/out"),
+        None => package.join("../target/staticlib"),
     };
     let archive = directory.join("libabi.a");
     if !archive.is_file() {

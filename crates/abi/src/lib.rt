@@ -1,5 +1,5 @@
 // The seven entries for C and for languages that call C: numbers and slices only, a slice being a pointer and its number of elements. Each calls
-// the entry of the crate index and hands its answer over as numbers. include/kavizhuran.h declares them.
+// the entry of the crate index and hands its answer over as numbers. The crate abi_c exports them, and include/kavizhuran.h declares them.
 
 #![tactic(auto)]
 
@@ -57,8 +57,7 @@ fn hand_bounds(bounds: Bounds) -> KvResult
 }
 
 // Build: a, b, c are the numbers of classes, of connected pairs and of entries; at 6 a is the need.
-#[unsafe(no_mangle)]
-pub extern "C" fn kv_build(
+pub fn kv_build(
     items: u32,
     labels: u32,
     k: u32,
@@ -78,8 +77,7 @@ pub extern "C" fn kv_build(
 }
 
 // Check: the level and position, the list and index, or the index, of the first fault.
-#[unsafe(no_mangle)]
-pub extern "C" fn kv_check(
+pub fn kv_check(
     items: u32,
     labels: u32,
     k: u32,
@@ -99,8 +97,7 @@ pub extern "C" fn kv_check(
 }
 
 // Direct answer: a is the number of answers written.
-#[unsafe(no_mangle)]
-pub extern "C" fn kv_direct(
+pub fn kv_direct(
     items: u32,
     labels: u32,
     edges: &[u32],
@@ -115,8 +112,7 @@ pub extern "C" fn kv_direct(
 }
 
 // Stored answer: a is the number of answers written.
-#[unsafe(no_mangle)]
-pub extern "C" fn kv_stored(
+pub fn kv_stored(
     items: u32,
     labels: u32,
     table: &[u32],
@@ -132,8 +128,7 @@ pub extern "C" fn kv_stored(
 }
 
 // Class answer: a is the number of class numbers written.
-#[unsafe(no_mangle)]
-pub extern "C" fn kv_class(
+pub fn kv_class(
     items: u32,
     labels: u32,
     k: u32,
@@ -150,16 +145,14 @@ pub extern "C" fn kv_class(
 }
 
 // Pairs of a class: b and c are the bounds of the part in the order list.
-#[unsafe(no_mangle)]
-pub extern "C" fn kv_pairs(c: u32, starts: &[u32], order: &[u32]) -> KvResult
+pub fn kv_pairs(c: u32, starts: &[u32], order: &[u32]) -> KvResult
     ensures { HandsBounds c starts.now order.now result }
 {
     hand_bounds(index::class_bounds(c, starts, order))
 }
 
 // Sequence lookup: b and c are the bounds of the part in the entry list, in numbers; at 8 a is the place.
-#[unsafe(no_mangle)]
-pub extern "C" fn kv_lookup(symbols: &[u8], entries: &[u32]) -> KvResult
+pub fn kv_lookup(symbols: &[u8], entries: &[u32]) -> KvResult
     ensures { HandsRun symbols.now entries.now result }
 {
     hand_bounds(index::lookup_bounds(symbols, entries))
