@@ -1,8 +1,9 @@
 -- What each function for C promises: the numbers of the answer, and an equation for every lent list that it may write.
-use Rattle.std.specs.Prelude.{ℕ, ◌%◌, ◌^◌, ◌≡◌, List}
+use Rattle.rules.specs.declared.Part.{Part}
+use Rattle.rules.specs.declared.Refusal.{Refusal}
+use Rattle.rules.specs.Outcomes.{span}
+use Rattle.std.specs.Prelude.{Err, Ok, Result, ℕ, ◌%◌, ◌^◌, ◌≡◌, List}
 use Rattle.rules.specs.declared.Report.{Report}
-use Rattle.rules.specs.declared.Bounds.{Bounds}
-use Rattle.rules.specs.declared.Bounds.TheVariants.{Part, Refused as NoPart}
 use Rattle.rules.specs.Numbers.{of_built, of_checked, of_answered, of_bounds}
 use Rattle.rules.specs.Outcomes.{BuildCall, build, CheckCall, check, AnswerEnd, class_bounds, lookup_bounds}
 use Rattle.abi.specs.declared.KvResult.{KvResult}
@@ -12,9 +13,9 @@ unfoldable pub handed : Report → KvResult
 handed r = record { number = r.number; a = r.a; b = r.b; c = r.c }
 
 -- bounds as 32-bit numbers: of a list longer than 2³² numbers modulo 2³²
-unfoldable pub narrowed : Bounds → Bounds
-narrowed (Part from to) = Part (from % 2 ^ 32) (to % 2 ^ 32)
-narrowed (NoPart r) = NoPart r
+unfoldable pub narrowed : Result Part Refusal → Result Part Refusal
+narrowed (Ok part) = Ok (span (part.from % 2 ^ 32) (part.to % 2 ^ 32))
+narrowed (Err r) = Err r
 
 -- build, called with c
 pub record HandsBuilt (c : BuildCall) (r : KvResult) (levels' starts' order' entries' area' : List ℕ) : Type 0 where

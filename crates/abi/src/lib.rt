@@ -10,7 +10,7 @@ ghost use Rattle.rules.specs.Calls.{direct_call, stored_call, class_call};
 ghost use Rattle.rules.specs.Calls.{build_call, check_call};
 ghost use Rattle.abi.specs.Handed.{handed, narrowed, HandsBuilt, HandsChecked, HandsAnswered, HandsBounds, HandsRun};
 
-use rules::{Bounds, Report};
+use rules::{Part, Refusal, Report};
 
 // An answer for C: the number of document 01's table, 0 where nothing is refused, and up to three values, 0 where the table names none.
 #[repr(C)]
@@ -42,17 +42,17 @@ fn narrow(x: usize) -> u32
 }
 
 // The bounds of a part, modulo 2³², or the refusal. Only bounds in a list of 2³² numbers or more are changed by it.
-fn hand_bounds(bounds: Bounds) -> KvResult
+fn hand_bounds(bounds: Result<Part, Refusal>) -> KvResult
     ensures { result ≡ handed (of_bounds (narrowed bounds)) }
 {
     match bounds {
-        Bounds::Part(from, to) => KvResult {
+        Ok(part) => KvResult {
             number: 0,
             a: 0,
-            b: narrow(from),
-            c: narrow(to),
+            b: narrow(part.from),
+            c: narrow(part.to),
         },
-        Bounds::Refused(refusal) => hand(reports::report_refusal(refusal)),
+        Err(refusal) => hand(reports::report_refusal(refusal)),
     }
 }
 

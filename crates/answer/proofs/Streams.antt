@@ -1,5 +1,5 @@
 -- What the reads take and the writes add, one behind the other.
-use Rattle.std.proofs.Common.{ℕ, zero, suc, ◌+◌, ◌-◌, ◌^◌, ◌<◌, ◌≤◌, ◌≡◌, refl, sym, ap, ◌∙◌, List, [], ◌∷◌, ◌++◌, Bool, true, false, cond, arith, length, take, drop, subst, append-nil, append_assoc, length-append}
+use Rattle.std.proofs.Common.{ℕ, zero, suc, ◌+◌, ◌-◌, ◌^◌, ◌<◌, ◌≤◌, ◌≡◌, refl, sym, ap, ◌∙◌, List, [], ◌∷◌, ◌++◌, Bool, true, false, arith, length, take, drop, subst, append-nil, append_assoc, length-append}
 use borrow.Author.Tests.{ne_eqb}
 use Rattle.std.proofs.Math.Seq.{length-take-le}
 use Rattle.lines.specs.Lent.{Written}
@@ -16,6 +16,10 @@ use Rattle.answer.proofs.Laws.{machine_after}
 pub appends_none : (a : Option (List ℕ)) → Appends a a []
 appends_none None = tt
 appends_none (Some xs) = sym (append-nil xs)
+
+pub appends_nothing : (a : Option (List ℕ)) (many : ℕ) (out : List ℕ) → many ≤ 0 → Appends a a (take many out)
+appends_nothing a zero out h = appends_none a
+appends_nothing a (suc k) out h = absurd (omega (arith, h))
 
 pub appends_more : (a b c : Option (List ℕ)) (x y : List ℕ) → Appends a b x → Appends b c y → Appends a c (x ++ y)
 appends_more None b c x y e f = tt
@@ -82,76 +86,88 @@ pub printed_all : (a b : Option (List ℕ)) (goal : Fed) (m : Machine) (l : List
 printed_all a b goal m l i h p = subst (λ (t : List ℕ). Appends a b t) (done_text goal m p.text (p.ahead ∙ ap (after p.text) (fed_all m l i h))) p.written
 
 -- whether there is more to read
-goes_true : (got : ℕ) (s : Stage) → goes_on got s ≡ true → 0 < got
+pub goes_true : (got : ℕ) (s : Stage) → goes_on got s ≡ true → 0 < got
 unfolding goes_on
 goes_true zero s e = absurd (cc)
 goes_true (suc k) s e = omega arith
 
-goes_false : (got : ℕ) (s : Stage) → goes_on got s ≡ false → is_stopped s ≡ false → got ≡ 0
+pub goes_false : (got : ℕ) (s : Stage) → goes_on got s ≡ false → is_stopped s ≡ false → got ≡ 0
 unfolding goes_on
 goes_false zero s e h = refl
 goes_false (suc k) s e h = let f = rw (ne_eqb (suc k) zero (λ z. omega (arith, z)), h) at e in absurd (cc)
 
--- the turns that are left, and what that says of the bytes so far
-left_counted : (more : Bool) (got size turns turns' : ℕ) → turns' ≡ cond more (turns - 1) 0 → (more ≡ true → 0 < got) → 0 < turns → 2 ^ 64 - 1 ≤ size + turns → 0 < turns'
-    → 2 ^ 64 - 1 ≤ (size + got) + turns'
-left_counted true got size turns turns' e g h b z = omega (arith, g refl)
-left_counted false got size turns turns' e g h b z = absurd (omega arith)
-
-left_over : (more : Bool) (got size turns turns' : ℕ) → turns' ≡ cond more (turns - 1) 0 → (more ≡ true → 0 < got) → 0 < turns → 2 ^ 64 - 1 ≤ size + turns → turns' ≡ 0
-    → size + got < 2 ^ 64 - 1 → more ≡ false
-left_over true got size turns turns' e g h b z s = absurd (omega (arith, g refl))
-left_over false got size turns turns' e g h b z s = refl
-
 size_more : (bytes buffer : List ℕ) (got : ℕ) → got ≤ length buffer → length (bytes ++ take got buffer) ≡ length bytes + got
 size_more bytes buffer got h = length-append bytes (take got buffer) ∙ ap (λ (n : ℕ). length bytes + n) (length-take-le got buffer h)
 
-feed_text : (bytes more : List ℕ) (m : Machine) → m ≡ (feed beginning bytes).machine → (feed beginning bytes).text ++ (feed m more).text ≡ (feed beginning (bytes ++ more)).text
+feed_text : (start : Machine) (bytes more : List ℕ) (m : Machine) → m ≡ (feed start bytes).machine → (feed start bytes).text ++ (feed m more).text ≡ (feed start (bytes ++ more)).text
 unfolding after
-feed_text bytes more m e =
-    ap (λ (x : Machine). (feed beginning bytes).text ++ (feed x more).text) e ∙ sym (ap (λ (f : Fed). f.text) (pieces beginning bytes more))
+feed_text start bytes more m e =
+    ap (λ (x : Machine). (feed start bytes).text ++ (feed x more).text) e ∙ sym (ap (λ (f : Fed). f.text) (pieces start bytes more))
 
-pub moves_start : (left held : Option (List ℕ)) (m : Machine) (turns : ℕ) → m ≡ beginning → 2 ^ 64 - 1 ≤ turns → Moves left left held held m turns
+-- behind so many reads that each handed over a byte
+pub record Going (left left' held held' : Option (List ℕ)) (start m : Machine) (turns : ℕ) : Type 0 where
+  pub bytes : List ℕ
+  pub read : Consumes left left' bytes
+  pub fed : m ≡ (feed start bytes).machine
+  pub written : Appends held held' (feed start bytes).text
+  pub counted : turns ≤ length bytes
+
+pub going_start : (left held : Option (List ℕ)) (m : Machine) → Going left left held held m m 0
 unfolding feed
-moves_start left held m turns e h =
-    record { bytes = []; read = consumes_none left; fed = e; written = appends_none held; counted = λ z. omega arith; over = λ z. absurd (omega arith) }
+going_start left held m = record { bytes = []; read = consumes_none left; fed = refl; written = appends_none held; counted = omega arith }
 
-module _ (left left' left'' held held' held'' : Option (List ℕ)) (m n : Machine) (got : ℕ) (more : Bool) (buffer : List ℕ) (turns turns' : ℕ) (v : Moves left left' held held' m turns) (r : Reads m n got more buffer) where
-  further : goes_on got n.stage ≡ true → 0 < got
-  further e = goes_true got n.stage e
+-- with no turn left the input was too long
+pub moves_long : (left left' held held' : Option (List ℕ)) (start m : Machine) (turns : ℕ) → 2 ^ 64 - 1 ≤ turns → Going left left' held held' start m turns → Moves left left' held held' start m
+moves_long left left' held held' start m turns h v = record { bytes = v.bytes; read = v.read; fed = v.fed; written = v.written; over = λ s f. absurd (omega (arith, v.counted)) }
 
-  pub moves_more : Consumes left' left'' (take got buffer) → (got ≡ 0 → 0 < length buffer → IsAtEnd left'') → Appends held' held'' (feed m (take got buffer)).text
-      → 0 < length buffer → 0 < turns → turns' ≡ cond more (turns - 1) 0 → Moves left left'' held held'' n turns'
-  moves_more c e a b h t =
-      let size : length (v.bytes ++ take got buffer) ≡ length v.bytes + got = size_more v.bytes buffer got r.inside in
-      record {
-        bytes = v.bytes ++ take got buffer;
-        read = consumes_more left left' left'' v.bytes (take got buffer) v.read c;
-        fed =
-            r.fed
-            ∙ (ap (λ (x : Machine). (feed x (take got buffer)).machine) v.fed
-            ∙ sym (machine_after _ _ _ (pieces beginning v.bytes (take got buffer))));
-        written =
-            subst (λ (l : List ℕ). Appends held held'' l) (feed_text v.bytes (take got buffer) m v.fed)
-            (appends_more held held' held'' (feed beginning v.bytes).text (feed m (take got buffer)).text v.written a);
-        counted = λ z.
-            let k : 2 ^ 64 - 1 ≤ (length v.bytes + got) + turns' = left_counted more got (length v.bytes) turns turns' t (λ x. further (sym r.further ∙ x)) h (v.counted h) z in
-            omega arith;
-        over = λ z s f.
-            let k : length v.bytes + got < 2 ^ 64 - 1 = omega arith in
-            e (goes_false got n.stage (sym r.further ∙ left_over more got (length v.bytes) turns turns' t (λ x. further (sym r.further ∙ x)) h (v.counted h) z k) f) b;
-      }
+-- one read more
+module _ (left left' left'' held held' held'' : Option (List ℕ)) (start m n : Machine) (turns got : ℕ) (buffer : List ℕ) (v : Going left left' held held' start m turns) (r : Reads m n got buffer)
+    (c : Consumes left' left'' (take got buffer)) (a : Appends held' held'' (feed m (take got buffer)).text)
+  where
+    abbrev more : List ℕ
+    more = v.bytes ++ take got buffer
+
+    more_fed : n ≡ (feed start more).machine
+    more_fed =
+        r.fed
+        ∙ (ap (λ (x : Machine). (feed x (take got buffer)).machine) v.fed
+        ∙ sym (machine_after _ _ _ (pieces start v.bytes (take got buffer))))
+
+    more_written : Appends held held'' (feed start more).text
+    more_written =
+        subst (λ (l : List ℕ). Appends held held'' l) (feed_text start v.bytes (take got buffer) m v.fed)
+        (appends_more held held' held'' (feed start v.bytes).text (feed m (take got buffer)).text v.written a)
+
+    pub going_more : 0 < got → Going left left'' held held'' start n (turns + 1)
+    going_more h =
+        record {
+          bytes = more;
+          read = consumes_more left left' left'' v.bytes (take got buffer) v.read c;
+          fed = more_fed;
+          written = more_written;
+          counted = omega (arith, size_more v.bytes buffer got r.inside, v.counted);
+        }
+
+    pub moves_over : (is_stopped n.stage ≡ false → IsAtEnd left'') → Moves left left'' held held'' start n
+    moves_over e =
+        record {
+          bytes = more;
+          read = consumes_more left left' left'' v.bytes (take got buffer) v.read c;
+          fed = more_fed;
+          written = more_written;
+          over = λ s. e;
+        }
 
 -- the last text
-pub runs : (left left' held held' : Option (List ℕ)) (m : Machine) (many : ℕ) (old new : List ℕ) → Moves left left' held held' m 0 → Written (finish m) many 0 old new
-    → Runs left left' held held' (take many new)
-runs left left' held held' m many old new v w =
+pub runs : (left left' held held' : Option (List ℕ)) (start m : Machine) (many : ℕ) (old new : List ℕ) → Moves left left' held held' start m → Written (finish m) many 0 old new
+    → Runs left left' held held' start (take many new)
+runs left left' held held' start m many old new v w =
     record {
       bytes = v.bytes;
       read = v.read;
       written = v.written;
       ends = text_front (finish m) old new many w.size (omega (arith, w.inside)) w.bytes ∙ ap finish v.fed;
-      over = λ s f. v.over refl s (ap (λ (x : Machine). is_stopped x.stage) v.fed ∙ f);
+      over = λ s f. v.over s (ap (λ (x : Machine). is_stopped x.stage) v.fed ∙ f);
     }
 
 -- once the run has stopped it prints nothing, whatever follows
@@ -169,7 +185,7 @@ run_prefix : (bytes rest : List ℕ) → feed (feed beginning bytes).machine res
     → run (bytes ++ rest) ≡ (feed beginning bytes).text ++ finish (feed beginning bytes).machine
 run_prefix bytes rest e = run_pieces bytes rest ∙ ap (λ (f : Fed). (feed beginning bytes).text ++ (f.text ++ finish f.machine)) e
 
-pub answered : (left left' held held' held'' : Option (List ℕ)) (last : List ℕ) → Runs left left' held held' last → Appends held' held'' last
+pub answered : (left left' held held' held'' : Option (List ℕ)) (last : List ℕ) → Runs left left' held held' beginning last → Appends held' held'' last
     → IfSome left (λ input. length input < 2 ^ 64 - 1 → Appends held held'' (run input))
 answered None left' held held' held'' last r a = tt
 answered (Some xs) None held held' held'' last r a = elim r.read [ ]

@@ -1,8 +1,9 @@
 -- What build's steps ask and leave, and how its work ends.
-use Rattle.std.specs.Prelude.{ℕ, ◌*◌, ◌/◌, ◌≤◌, ◌<◌, ◌≡◌, List, Bool, cond, leb, length}
+use Rattle.rules.specs.declared.Counts.{Counts}
+use Rattle.rules.specs.declared.Refusal.{Refusal}
+use Rattle.rules.specs.Outcomes.{counted}
+use Rattle.std.specs.Prelude.{Err, Ok, Result, ℕ, ◌*◌, ◌/◌, ◌≤◌, ◌<◌, ◌≡◌, List, Bool, cond, leb, length}
 use Rattle.rules.specs.declared.Refusal.TheVariants.{EntryRoom}
-use Rattle.rules.specs.declared.Built.{Built}
-use Rattle.rules.specs.declared.Built.TheVariants.{Tables, Refused}
 use Rattle.rules.specs.Graph.{Graph}
 use Rattle.rules.specs.Levels.{max_of}
 use Rattle.rules.specs.Lists.{starts_of, order_of, entries_of}
@@ -30,9 +31,9 @@ abbrev pub entries_fit : Graph → ℕ → List ℕ → List ℕ → Bool
 entries_fit g k t entries = leb (length (entries_of g k t) / 2) (length entries / 2)
 
 -- the lists of a table are written; 6 leaves the entries, and all else as for 0
-pub record ListsWritten (n : ℕ) (g : Graph) (k : ℕ) (t starts order entries area : List ℕ) (r : Built) (starts' order' entries' area' : List ℕ) : Type 0 where
+pub record ListsWritten (n : ℕ) (g : Graph) (k : ℕ) (t starts order entries area : List ℕ) (r : Result Counts Refusal) (starts' order' entries' area' : List ℕ) : Type 0 where
   pub result : r
-      ≡ cond (entries_fit g k t entries) (Tables (max_of t) (length (order_of t)) (length (entries_of g k t) / 2)) (Refused (EntryRoom (length (entries_of g k t) / 2)))
+      ≡ cond (entries_fit g k t entries) (Ok (counted (max_of t) (length (order_of t)) (length (entries_of g k t) / 2))) (Err (EntryRoom (length (entries_of g k t) / 2)))
   pub starts_are : starts' ≡ front (starts_of t) starts
   pub order_are : order' ≡ front (order_of t) order
   pub entries_are : entries' ≡ cond (entries_fit g k t entries) (front (entries_of g k t) entries) entries

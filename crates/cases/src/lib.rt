@@ -3,16 +3,18 @@
 
 #![tactic(auto)]
 
+// why no case was read
+pub mod faults;
 // the bytes and the numbers of the input
 pub mod source;
-// the bytes and the numbers of the output
-mod output;
-// the front of a lent list
-mod fronts;
+// the bytes of the output
+pub mod output;
 // what a case of each letter has
-pub mod forms;
-// a case as one list of numbers
-pub mod store;
+pub mod letters;
+// a lent list
+pub mod lists;
+// a case: its numbers and its lists
+pub mod case;
 // from a line to a case
 pub mod reading;
 // from a case to a line

@@ -16,83 +16,58 @@ ghost use Rattle.checking.specs.Checking.{lists_verdict};
 use levels::all::check_levels;
 use lists::listing::match_entries;
 use matching::match_lists;
-use rules::{Checked, Refusal};
+use rules::{ClassList, Refusal};
+use top::{Sizes, Tables};
 
-// Whether two lists of these lengths whose first difference is d are not the same.
+// Whether two lists of these lengths whose first difference is d are not the same. The test and the number told stand apart, as the edit check_starts_unread has them.
 fn differ(d: usize, one: usize, other: usize) -> bool
     ensures { result ≡ not (eqb d one && eqb d other) }
 {
-    if d != one {
-        return true;
-    }
-    d != other
+    !(d == one && d == other)
 }
 
 // 16 for starts, then for order, then 17: stored lists against those of the table.
 fn check_lists(
     table: &[u32],
-    n: usize,
-    labels: usize,
-    k: usize,
+    sizes: Sizes,
     edges: &[u32],
-    starts: &[u32],
-    order: &[u32],
-    entries: &[u32],
+    tables: Tables,
     area: &mut [u8],
-) -> Checked
-    requires { ListsStored n labels k edges.now table.now area.old }
-    ensures { (result ≡ told (lists_verdict (graph_of n labels edges.now) k table.now starts.now order.now entries.now)) × (Frame 0 (9 * (n * n)) area.old area.new) }
+) -> Result<(), Refusal>
+    requires { ListsStored sizes.n sizes.labels sizes.k edges.now table.now area.old }
+    ensures { (result ≡ told (lists_verdict (graph_of sizes.n sizes.labels edges.now) sizes.k table.now tables.entry.starts.now tables.entry.order.now tables.entry.entries.now)) × (Frame 0 (9 * (sizes.n * sizes.n)) area.old area.new) }
 {
-    let found = match_lists(table, n, starts, order, area);
+    let found = match_lists(table, sizes.n, tables.starts, tables.order, area);
     let first = found.starts;
     let start_numbers = found.classes + 1;
-    if differ(first, start_numbers, starts.len()) {
-        let index = first as u32;
-        return Checked::Refused(Refusal::ListFault(1, index));
+    if differ(first, start_numbers, tables.starts.len()) {
+        return Err(Refusal::ListFault(ClassList::Starts, first as u32));
     }
     let second = found.order;
-    if differ(second, found.pairs, order.len()) {
-        let index = second as u32;
-        return Checked::Refused(Refusal::ListFault(2, index));
+    if differ(second, found.pairs, tables.order.len()) {
+        return Err(Refusal::ListFault(ClassList::Order, second as u32));
     }
-    let progress = match_entries(edges, labels, n, k, table, area, entries);
+    let Sizes { n, labels, k } = sizes;
+    let progress = match_entries(edges, labels, n, k, table, area, tables.entries);
     let third = progress.met;
     let entry_numbers = 2 * progress.count;
-    if differ(third, entry_numbers, entries.len()) {
-        let index = third as u32;
-        return Checked::Refused(Refusal::EntryFault(index));
+    if differ(third, entry_numbers, tables.entries.len()) {
+        return Err(Refusal::EntryFault(third as u32));
     }
-    Checked::Accepted
+    Ok(())
 }
 
 // 15, then 16 and 17.
 pub fn check_tables(
-    n: usize,
-    labels: usize,
-    k: usize,
+    sizes: Sizes,
     edges: &[u32],
-    levels: &[u32],
-    starts: &[u32],
-    order: &[u32],
-    entries: &[u32],
+    tables: Tables,
     area: &mut [u8],
-) -> Checked
-    requires { check_refusal (check_call n labels k edges.now levels.now starts.now order.now entries.now area.old) ≡ good }
-    ensures { (result ≡ told (accepts rule (graph_of n labels edges.now) (index_of n labels k levels.now starts.now order.now entries.now))) × (Frame 0 (9 * (n * n)) area.old area.new) }
+) -> Result<(), Refusal>
+    requires { check_refusal (check_call sizes.n sizes.labels sizes.k edges.now tables.levels.now tables.starts.now tables.order.now tables.entries.now area.old) ≡ good }
+    ensures { (result ≡ told (accepts rule (graph_of sizes.n sizes.labels edges.now) (index_of sizes.n sizes.labels sizes.k tables.entry.levels.now tables.entry.starts.now tables.entry.order.now tables.entry.entries.now))) × (Frame 0 (9 * (sizes.n * sizes.n)) area.old area.new) }
 {
-    let verdict = check_levels(n, k, edges, levels, area);
-    let Checked::Accepted = verdict else {
-        return verdict;
-    };
-    check_lists(
-        top::top_of(levels, n, k),
-        n,
-        labels,
-        k,
-        edges,
-        starts,
-        order,
-        entries,
-        area,
-    )
+    check_levels(sizes.n, sizes.k, edges, tables.levels, area)?;
+    let table = top::top_of(tables.levels, sizes.n, sizes.k);
+    check_lists(table, sizes, edges, tables, area)
 }

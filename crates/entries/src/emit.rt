@@ -1,59 +1,15 @@
-// The entries of one relation: code and class for each class whose first pair it holds. They are counted, written where there is room, and compared with a stored list, in one go.
+// The entries of one relation: code and class for each class whose first pair it holds.
+// `from` and `l`, and `table` and `n`, are parameters of their own: rows are read at `from` and a start, and `n` is asked for alone, so that a struct would be taken apart in each function.
 
 ghost use Rattle.std.specs.Prelude.{◌≡◌, List, [], ◌∷◌, ◌++◌, Bool, cond, not, ◌&&◌, ℕ, ◌+◌, ◌*◌, ◌-◌, ◌≤◌, ◌<◌, eqb, length};
 ghost use Rattle.rules.specs.Finite.{count_below};
-ghost use Rattle.rules.specs.Accept.{difference};
 ghost use Rattle.relations.specs.Relations.{bit_at, Frame, Slot};
 ghost use Rattle.entries.specs.Entries.{Went, Firsts, Emitting, is_hit, entries_row, entries_rows};
+ghost use Rattle.entries.specs.Lent.{Same};
 
-use relations::blocks::{end_of, has_bit, labels_in, lacks};
-
-// How far the entries have come: how many there are, and the first number at which they differ from the stored list.
-#[derive(Clone, Copy)]
-pub struct Progress {
-    pub count: usize,
-    pub met: usize,
-}
-
-// The first difference of a list from the stored one when an entry is put behind its k entries; m is that before.
-fn meet(stored: &[u32], m: usize, k: usize, code: u32, class: u32) -> usize
-    requires { k < 1152921504606846976 }
-    ensures { (before : List ℕ) → length before ≡ 2 * k → m ≡ difference before stored.now → result ≡ difference (before ++ (code ∷ (class ∷ []))) stored.now }
-{
-    let i = 2 * k;
-    if m != i {
-        return m;
-    }
-    if i >= stored.len() {
-        return i;
-    }
-    if stored[i] != code {
-        return i;
-    }
-    if i + 1 >= stored.len() {
-        return i + 1;
-    }
-    if stored[i + 1] != class {
-        return i + 1;
-    }
-    i + 2
-}
-
-// One entry more.
-fn put(stored: &[u32], out: &mut [u32], past: Progress, code: u32, class: u32) -> Progress
-    requires { past.count < 1152921504606846976 }
-    ensures { (result.count ≡ past.count + 1) × (Went past.count past.met result.count result.met (code ∷ (class ∷ [])) stored.now out.old out.new) }
-{
-    let k = past.count;
-    let met = meet(stored, past.met, k, code, class);
-    let i = 2 * k;
-    if i + 1 >= out.len() {
-        return Progress { count: k + 1, met };
-    }
-    out[i] = code;
-    out[i + 1] = class;
-    Progress { count: k + 1, met }
-}
+use super::list::EntryList;
+use packing::bits::has_bit;
+use relations::blocks::lacks;
 
 // The positions that are the first of their number: 1 in the bytes from 8·n·n on, 0 for the others.
 pub fn mark_firsts(table: &[u32], n: usize, area: &mut [u8])
@@ -61,31 +17,19 @@ pub fn mark_firsts(table: &[u32], n: usize, area: &mut [u8])
     ensures { (Frame (8 * (n * n)) (9 * (n * n)) area.old area.new) × (Firsts n table.now area.new) }
 {
     let at = 8 * (n * n);
-    let mut most: u32 = 0;
-    let mut p: usize = 0;
-    while p < table.len() {
-        let x = table[p];
-        if most < x {
-            most = x;
-            area[at + p] = 1;
-            p += 1;
-            continue;
-        }
-        area[at + p] = 0;
-        p += 1;
+    let mut most = 0;
+    for (p, &x) in table.iter().enumerate() {
+        area[at + p] = u8::from(most < x);
+        most = most.max(x);
     }
 }
 
-// 1 where bit l of x is set and the position is a first one, else 0. The bit is taken in any case, so that a loop over this goes in vector registers.
+// 1 where bit l of x is set and the position is a first one, else 0.
 fn hit(x: u8, first: u8, l: usize) -> u8
     requires { l < 8 }
     ensures { result ≡ cond (not (eqb first 0) && bit_at l x) 1 0 }
 {
-    let bit = (x >> l) % 2;
-    if first == 0 {
-        return 0;
-    }
-    bit
+    u8::from(first != 0 && has_bit(x, l))
 }
 
 // How many of n positions are first ones and have bit l.
@@ -94,12 +38,10 @@ fn count_row(area: &[u8], from: usize, firsts: usize, l: usize, n: usize) -> usi
     ensures { result ≡ count_below n (is_hit area.now from firsts l) }
 {
     let mut some: u8 = 0;
-    let mut u: usize = 0;
-    while u < n {
-        some = some + hit(area[from + u], area[firsts + u], l);
-        u += 1;
+    for u in 0..n {
+        some += hit(area[from + u], area[firsts + u], l);
     }
-    some as usize
+    usize::from(some)
 }
 
 // The entries of the places from `start` up to `end` in row v of the relation that bit l of the block at `from` holds, behind those of the places before.
@@ -113,31 +55,23 @@ fn put_places(
     from: usize,
     l: usize,
     area: &[u8],
-    stored: &[u32],
-    out: &mut [u32],
-    past: Progress,
-) -> Progress
-    requires { (v < n) × (start ≤ end) × (end ≤ n) × (Emitting table.now n l from past.count (end - start) area.now) }
-    ensures { (result.count ≤ past.count + (end - start)) × ((J : ℕ → ℕ → Bool) (at met : ℕ) (old : List ℕ) → Slot n from l area.now J → Firsts n table.now area.now → Went at met past.count past.met (entries_row n table.now J code v start) stored.now old out.old → Went at met result.count result.met (entries_row n table.now J code v end) stored.now old out.new) }
+    list: &mut EntryList,
+)
+    requires { (v < n) × (start ≤ end) × (end ≤ n) × (Emitting table.now n l from list.old.past.count (end - start) area.now) }
+    ensures { (list.new.past.count ≤ list.old.past.count + (end - start)) × ((J : ℕ → ℕ → Bool) (at met : ℕ) (old : List ℕ) → Slot n from l area.now J → Firsts n table.now area.now → Went at met list.old.past.count list.old.past.met (entries_row n table.now J code v start) list.old.stored.now old list.old.out.now → Went at met list.new.past.count list.new.past.met (entries_row n table.now J code v end) list.old.stored.now old list.new.out.now) × (Same list.old list.new) }
 {
     let row = v * n;
     let firsts = 8 * (n * n);
-    let mut done = past;
-    let mut u = start;
-    while u < end {
+    for u in start..end {
         let p = row + u;
         if !has_bit(area[from + p], l) {
-            u += 1;
             continue;
         }
         if area[firsts + p] == 0 {
-            u += 1;
             continue;
         }
-        done = put(stored, out, done, code, table[p]);
-        u += 1;
+        list.put(code, table[p]);
     }
-    done
 }
 
 // The entries of row v of the relation that bit l of the block at `from` holds. They are only counted where there is nothing to write to and nothing to compare with. Else sixteen places without that bit are passed over at once.
@@ -149,33 +83,25 @@ fn emit_row(
     from: usize,
     l: usize,
     area: &[u8],
-    stored: &[u32],
-    out: &mut [u32],
-    past: Progress,
-) -> Progress
-    requires { (v < n) × (Emitting table.now n l from past.count n area.now) }
-    ensures { (result.count ≤ past.count + n) × ((J : ℕ → ℕ → Bool) → Slot n from l area.now J → Firsts n table.now area.now → Went past.count past.met result.count result.met (entries_row n table.now J code v n) stored.now out.old out.new) }
+    list: &mut EntryList,
+)
+    requires { (v < n) × (Emitting table.now n l from list.old.past.count n area.now) }
+    ensures { (list.new.past.count ≤ list.old.past.count + n) × ((J : ℕ → ℕ → Bool) → Slot n from l area.now J → Firsts n table.now area.now → Went list.old.past.count list.old.past.met list.new.past.count list.new.past.met (entries_row n table.now J code v n) list.old.stored.now list.old.out.now list.new.out.now) × (Same list.old list.new) }
 {
     let row = v * n;
-    if stored.len() + out.len() == 0 {
-        let some = count_row(area, from + row, 8 * (n * n) + row, l, n);
-        return Progress {
-            count: past.count + some,
-            met: past.met,
-        };
+    if list.only_counts() {
+        list.past.count += count_row(area, from + row, 8 * (n * n) + row, l, n);
+        return;
     }
-    let mut done = past;
-    let mut u: usize = 0;
-    while u < n {
-        if lacks(area, from + (row + u), l, u, n) {
-            u += 16;
+    for i in 0..n / 16 {
+        let u = 16 * i;
+        let first = from + (row + u);
+        if lacks(&area[first..first + 16], l) {
             continue;
         }
-        let end = end_of(u, n);
-        done = put_places(table, n, v, u, end, code, from, l, area, stored, out, done);
-        u = end;
+        put_places(table, n, v, u, u + 16, code, from, l, area, list);
     }
-    done
+    put_places(table, n, v, n - n % 16, n, code, from, l, area, list);
 }
 
 // The entries of the relation that bit l of the block at `from` holds. Rows without that bit are passed over.
@@ -186,23 +112,16 @@ pub fn emit(
     from: usize,
     l: usize,
     area: &[u8],
-    stored: &[u32],
-    out: &mut [u32],
-    past: Progress,
-) -> Progress
-    requires { Emitting table.now n l from past.count (n * n) area.now }
-    ensures { (result.count ≤ past.count + n * n) × ((J : ℕ → ℕ → Bool) → Slot n from l area.now J → Firsts n table.now area.now → Went past.count past.met result.count result.met (entries_rows n table.now J code n) stored.now out.old out.new) }
+    list: &mut EntryList,
+)
+    requires { Emitting table.now n l from list.old.past.count (n * n) area.now }
+    ensures { (list.new.past.count ≤ list.old.past.count + n * n) × ((J : ℕ → ℕ → Bool) → Slot n from l area.now J → Firsts n table.now area.now → Went list.old.past.count list.old.past.met list.new.past.count list.new.past.met (entries_rows n table.now J code n) list.old.stored.now list.old.out.now list.new.out.now) × (Same list.old list.new) }
 {
-    let mut done = past;
-    let mut v: usize = 0;
-    while v < n {
+    for v in 0..n {
         let row = from + v * n;
-        if !has_bit(labels_in(area, row, n), l) {
-            v += 1;
+        if lacks(&area[row..row + n], l) {
             continue;
         }
-        done = emit_row(table, n, v, code, from, l, area, stored, out, done);
-        v += 1;
+        emit_row(table, n, v, code, from, l, area, list);
     }
-    done
 }

@@ -3,3 +3,4 @@
 #![tactic(auto)]
 
 pub mod emit; // the entries of a relation, row by row
+pub mod list; // a list of entries, one more at a time

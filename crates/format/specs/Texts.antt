@@ -1,9 +1,7 @@
 -- The lines of the output: 81 for the tables, 83 for an answer, FF for a refusal, each with its LF.
-use Rattle.std.specs.Prelude.{ℕ, List, [], ◌∷◌, take}
+use Rattle.std.specs.Prelude.{Err, Ok, Result, ℕ, List, [], ◌∷◌, take}
 use Rattle.hexa.specs.Digits.{put_digits}
 use Rattle.rules.specs.declared.Refusal.{Refusal}
-use Rattle.rules.specs.declared.Answered.{Answered}
-use Rattle.rules.specs.declared.Answered.TheVariants.{Answers, Refused}
 use Rattle.rules.specs.Numbers.{of_refusal}
 use Rattle.rules.specs.Outcomes.{AnswerEnd}
 
@@ -29,9 +27,9 @@ unfoldable pub list_text : ℕ → List ℕ → List ℕ
 list_text many list = put_digits 2 131 (put_digits 4 many (positions list (line_feed ∷ [])))
 
 -- what a stored answer is told as: its list, or its refusal
-unfoldable pub answer_by : List ℕ → Answered → List ℕ
-answer_by answers (Answers many) = list_text many (take many answers)
-answer_by answers (Refused r) = refusal_text r
+unfoldable pub answer_by : List ℕ → Result ℕ Refusal → List ℕ
+answer_by answers (Ok many) = list_text many (take many answers)
+answer_by answers (Err r) = refusal_text r
 
 unfoldable pub answer_text : AnswerEnd → List ℕ
 answer_text e = answer_by e.answers e.result

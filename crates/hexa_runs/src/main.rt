@@ -5,12 +5,11 @@
 
 ghost use Rattle.std.specs.Prelude.{◌≤◌, length, IfOk};
 
-use hexa::Read;
 use std::io;
 use std::io::{Result, Write};
 
 fn write_number(writer: &mut impl Write, x: u32) -> Result<()> {
-    let mut out = [10u8; 9];
+    let mut out = *b"00000000\n";
     hexa::put_digits(&mut out, 0, 8, x);
     writer.write_all(&out)
 }
@@ -25,9 +24,8 @@ fn write_end(writer: &mut impl Write, ended: bool) -> Result<()> {
 
 // The numbers of a line that is at most 4,096 bytes long.
 fn echo(writer: &mut impl Write, line: &[u8]) -> Result<()> {
-    for i in 0..1024 {
-        let at = i * 4;
-        let Read::Number(x) = reader::field(line, at, 4) else {
+    for at in (0..4096).step_by(4) {
+        let Some(x) = reader::field(line, at, 4) else {
             return write_end(writer, reader::ends(line, at));
         };
         write_number(writer, x)?;
@@ -35,7 +33,7 @@ fn echo(writer: &mut impl Write, line: &[u8]) -> Result<()> {
     Ok(())
 }
 
-// Reads until the buffer is full or the input ends: how many bytes stand at its front.
+// Reads until the buffer is full or the input ends: how many bytes stand at its front. A `while`: a read may be short, and each turn goes on by what it gave.
 fn read_full(from: &mut impl io::Read, buffer: &mut [u8]) -> Result<usize>
     ensures { IfOk result (λ n. n ≤ length buffer.new) }
 {

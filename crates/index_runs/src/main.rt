@@ -3,106 +3,80 @@
 
 #![tactic(auto)]
 
-use rules::Answered;
-use std::io::Result;
+use rules::Refusal;
+use std::io;
 
-fn wide(x: u32) -> u64 {
-    x as u64
-}
+const EDGES: [u32; 9] = [0, 2, 0, 1, 2, 0, 3, 2, 1];
 
-fn print_numbers(rt: &impl Print, list: &[u32]) -> Result<()> {
-    for x in list {
-        let number = wide(*x);
-        print!(rt; " {number}")?;
-    }
-    Ok(())
-}
+// The table of level 2, and the entries for k = 2.
+const TABLE: [u32; 16] = [1, 2, 3, 4, 2, 1, 3, 4, 5, 5, 6, 7, 8, 8, 9, 10];
 
-fn count_set(area: &[u8]) -> usize {
-    area.iter().filter(|byte| **byte != 0).count()
-}
+const ENTRIES: [u32; 28] = [
+    0, 1, 0, 6, 0, 10, 1, 3, 2, 5, 3, 9, 4, 7, 19, 1, 19, 2, 21, 4, 35, 6, 53, 8, 55, 10, 71, 6,
+];
 
 fn print_run(
     rt: &impl Print,
     name: &str,
-    answer: Answered,
+    answer: Result<u32, Refusal>,
     answers: &[u32],
     area: &[u8],
-) -> Result<()> {
+) -> io::Result<()> {
     let report = reports::report_answered(answer);
-    let number = wide(report.number);
-    let a = wide(report.a);
-    print!(rt; "{name}{number} {a}:")?;
-    print_numbers(rt, answers)?;
-    let set = count_set(area);
+    let number = report.number;
+    let a = report.a;
+    print!(rt; "{name} {number} {a}:")?;
+    for x in answers {
+        print!(rt; " {x}")?;
+    }
+    let set = area.iter().filter(|byte| **byte != 0).count();
     println!(rt; "; {set}")
 }
 
-fn run_direct(
+// One call, with so many lent answers.
+fn run<F: FnOnce(&mut [u32], &mut [u8]) -> Result<u32, Refusal>>(
     rt: &impl Print,
-    items: u32,
-    edges: &[u32],
-    tokens: &[u8],
+    name: &str,
     answers: &mut [u32],
-) -> Result<()> {
+    call: F,
+) -> io::Result<()>
+    requires { F.IsAlwaysCallable call }
+{
     let mut area = [7u8; 150];
-    let r = index::direct(items, 2, edges, tokens, answers, &mut area);
-    print_run(rt, "direct ", r, answers, &area)
+    let answer = call(answers, &mut area);
+    print_run(rt, name, answer, answers, &area)
 }
 
-fn direct(rt: &impl Print, tokens: &[u8]) -> Result<()> {
-    let edges = [0u32, 2, 0, 1, 2, 0, 3, 2, 1];
-    let mut answers = [99u32; 5];
-    run_direct(rt, 4, &edges, tokens, &mut answers)
+// The direct, the stored and the class answer.
+fn run_each(rt: &impl Print, tokens: &[u8]) -> io::Result<()> {
+    run(rt, "direct", &mut [99; 5], |answers, area| {
+        index::direct(4, 2, &EDGES, tokens, answers, area)
+    })?;
+    run(rt, "stored", &mut [99; 5], |answers, area| {
+        index::stored(4, 2, &TABLE, &ENTRIES, tokens, answers, area)
+    })?;
+    run(rt, "class", &mut [99; 5], |answers, area| {
+        index::class_answer(4, 2, 2, &TABLE, &ENTRIES, tokens, answers, area)
+    })
 }
 
-fn run_stored(rt: &impl Print, table: &[u32], entries: &[u32], tokens: &[u8]) -> Result<()> {
-    let mut answers = [99u32; 5];
-    let mut area = [7u8; 150];
-    let r = index::stored(4, 2, table, entries, tokens, &mut answers, &mut area);
-    print_run(rt, "stored ", r, &answers, &area)
-}
-
-fn run_class(rt: &impl Print, table: &[u32], entries: &[u32], tokens: &[u8]) -> Result<()> {
-    let mut answers = [99u32; 5];
-    let mut area = [7u8; 150];
-    let r = index::class_answer(4, 2, 2, table, entries, tokens, &mut answers, &mut area);
-    print_run(rt, "class ", r, &answers, &area)
-}
-
-// On the level-2 table and the entries for k = 2.
-fn stored(rt: &impl Print, tokens: &[u8]) -> Result<()> {
-    let table = [1u32, 2, 3, 4, 2, 1, 3, 4, 5, 5, 6, 7, 8, 8, 9, 10];
-    let entries = [
-        0u32, 1, 0, 6, 0, 10, 1, 3, 2, 5, 3, 9, 4, 7, 19, 1, 19, 2, 21, 4, 35, 6, 53, 8, 55, 10,
-        71, 6,
-    ];
-    run_stored(rt, &table, &entries, tokens)?;
-    run_class(rt, &table, &entries, tokens)
-}
-
-fn main(rt: HostRuntime) -> Result<()> {
+fn main(rt: HostRuntime) -> io::Result<()> {
     // P6
-    direct(&rt, b"\x01\x02\x20")?;
-    stored(&rt, b"\x01\x02\x20")?;
+    run_each(&rt, b"\x01\x02\x20")?;
     // P7
-    direct(&rt, b"\x01\x02\x20\x01\x20")?;
-    stored(&rt, b"\x01\x02\x20\x01\x20")?;
+    run_each(&rt, b"\x01\x02\x20\x01\x20")?;
     // P8
-    direct(&rt, b"\x05")?;
-    stored(&rt, b"\x05")?;
+    run_each(&rt, b"\x05")?;
     // P9
-    direct(&rt, b"\x01\x20")?;
-    stored(&rt, b"\x01\x20")?;
+    run_each(&rt, b"\x01\x20")?;
     // P10
-    direct(&rt, b"\x01\x02")?;
-    stored(&rt, b"\x01\x02")?;
+    run_each(&rt, b"\x01\x02")?;
     // P12: no items, no edges
-    let none: [u32; 0] = [0u32; 0];
-    let mut answers = [99u32; 5];
-    run_direct(&rt, 0, &none, b"\x00", &mut answers)?;
+    run(&rt, "direct", &mut [99; 5], |answers, area| {
+        index::direct(0, 2, &[], b"\x00", answers, area)
+    })?;
     // P6 with room for three answers: 13
-    let edges = [0u32, 2, 0, 1, 2, 0, 3, 2, 1];
-    let mut few = [99u32; 3];
-    run_direct(&rt, 4, &edges, b"\x01\x02\x20", &mut few)
+    run(&rt, "direct", &mut [99; 3], |answers, area| {
+        index::direct(4, 2, &EDGES, b"\x01\x02\x20", answers, area)
+    })
 }

@@ -1,6 +1,6 @@
 -- What callers show, as records with named parts, and what the functions of levels leave.
-use Rattle.std.specs.Prelude.{ℕ, ◌*◌, ◌≤◌, ◌≡◌, List, length, drop}
-use Rattle.rules.specs.declared.Checked.{Checked}
+use Rattle.rules.specs.declared.Refusal.{Refusal}
+use Rattle.std.specs.Prelude.{Result, ℕ, ◌*◌, ◌≤◌, ◌≡◌, List, length, drop}
 use Rattle.rules.specs.Graph.{graph_of}
 use Rattle.rules.specs.Rule.{rule}
 use Rattle.rules.specs.Levels.{built_level, built_levels, level_of, max_of}
@@ -23,7 +23,7 @@ pub record Stacked (n k : ℕ) (levels area : List ℕ) (r : ℕ) (levels' area'
   pub kept : Kept n area area'
 
 -- levels 1 to k are checked over the marks
-pub record Judged (n k : ℕ) (levels area : List ℕ) (r : Checked) (area' : List ℕ) : Type 0 where
+pub record Judged (n k : ℕ) (levels area : List ℕ) (r : Result Unit Refusal) (area' : List ℕ) : Type 0 where
   pub verdict : r ≡ told (levels_right rule (marked_graph n area) k (level_of n levels))
   pub kept : Kept n area area'
 
@@ -39,6 +39,6 @@ pub record LevelsBuilt (n k : ℕ) (edges levels area : List ℕ) (r : ℕ) (lev
   pub past : Past n area area'
 
 -- check_levels: 15 with the first faulty level and position, or none
-pub record LevelsChecked (n k : ℕ) (edges levels area : List ℕ) (r : Checked) (area' : List ℕ) : Type 0 where
+pub record LevelsChecked (n k : ℕ) (edges levels area : List ℕ) (r : Result Unit Refusal) (area' : List ℕ) : Type 0 where
   pub verdict : (labels : ℕ) → labels ≤ 8 → EdgesFit n labels edges → r ≡ told (levels_right rule (graph_of n labels edges) k (level_of n levels))
   pub past : Past n area area'

@@ -1,5 +1,5 @@
 // A level over those below: numbered or checked, or taken from the level below where it repeats it.
-ghost use Rattle.std.specs.Prelude.{◌≡◌, true, ◌*◌, ◌-◌};
+ghost use Rattle.std.specs.Prelude.{◌≡◌, true, ◌-◌};
 ghost use Rattle.rules.specs.Levels.{level_of};
 ghost use Rattle.twins.specs.Standing.{Stands, Ready};
 ghost use Rattle.numbering.specs.Needs.{Numbered, Faulty};
@@ -33,14 +33,14 @@ fn repeats_on(n: usize, i: usize, levels: &[u32]) -> bool
     same_below(n, i, levels)
 }
 
-// The first faulty position of level i, or n*n. Where the two levels below are the same, so is a right level i: it is accepted without
+// The first faulty position of level i. Where the two levels below are the same, so is a right level i: it is accepted without
 // a search if it is, and otherwise the search finds the fault.
-pub fn level_fault(n: usize, i: usize, levels: &[u32], area: &mut [u8]) -> usize
+pub fn level_fault(n: usize, i: usize, levels: &[u32], area: &mut [u8]) -> Option<usize>
     requires { Ready n i levels.now area.old }
     ensures { Faulty n i levels.now area.old result area.new }
 {
     if repeats_on(n, i, levels) {
-        return n * n;
+        return None;
     }
     check_level(n, i, levels, area)
 }

@@ -6,6 +6,7 @@ ghost use Rattle.rules.specs.Writing.{put};
 ghost use Rattle.twins.specs.Standing.{Stands, base};
 ghost use Rattle.levels.specs.Repeat.{LooksBelow, LooksAlike, Repeats};
 
+use twins::level::Level;
 use twins::splits::{first_level, second_level, splits};
 
 // Level i looks at the level directly below only.
@@ -14,15 +15,13 @@ fn looks_below(i: usize) -> bool
     ensures { result ≡ true → LooksBelow i }
 {
     let count = splits(i);
-    let mut c = 0;
-    while c < count {
+    for c in 0..count {
         if first_level(i, c) != i - 1 {
             return false;
         }
         if second_level(i, c) != i - 1 {
             return false;
         }
-        c += 1;
     }
     true
 }
@@ -41,29 +40,12 @@ fn looks_alike(i: usize) -> bool
     splits(i) == splits(i - 1)
 }
 
-// Where the numbers of level i begin.
-fn start_of(n: usize, i: usize, levels: &[u32]) -> usize
-    requires { Stands n levels.now i }
-    ensures { result ≡ base n i }
-{
-    (i - 1) * (n * n)
-}
-
 // Level i is the same as the level below it.
 pub fn same_below(n: usize, i: usize, levels: &[u32]) -> bool
     requires { (Stands n levels.now i) × (1 < i) }
     ensures { result ≡ true → level_of n levels.now i ≡ level_of n levels.now (i - 1) }
 {
-    let upper = start_of(n, i, levels);
-    let lower = start_of(n, i - 1, levels);
-    let mut p = 0;
-    while p < n * n {
-        if levels[upper + p] != levels[lower + p] {
-            return false;
-        }
-        p += 1;
-    }
-    true
+    Level::of(n, levels, i).numbers == Level::of(n, levels, i - 1).numbers
 }
 
 // The two levels below level i are the same, and so is what they are looked at for.
@@ -85,11 +67,7 @@ pub fn copy_below(n: usize, i: usize, levels: &mut [u32])
     requires { (Stands n levels.old i) × (1 < i) }
     ensures { levels.new ≡ put levels.old (base n i) (level_of n levels.old (i - 1)) }
 {
-    let upper = start_of(n, i, levels);
-    let lower = start_of(n, i - 1, levels);
-    let mut p = 0;
-    while p < n * n {
-        levels[upper + p] = levels[lower + p];
-        p += 1;
-    }
+    let upper = (i - 1) * (n * n);
+    let lower = (i - 2) * (n * n);
+    levels.copy_within(lower..upper, upper);
 }

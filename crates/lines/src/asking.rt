@@ -1,15 +1,17 @@
 // A query, answered from the stored tables.
-ghost use Rattle.std.specs.Prelude.{◌≡◌, ◌*◌, ◌≤◌, length, take};
+ghost use Rattle.std.specs.Prelude.{◌≡◌, ◌*◌, ◌≤◌, take, replicate};
 ghost use Rattle.rules.specs.Levels.{level_of};
 ghost use Rattle.rules.specs.Outcomes.{stored};
 ghost use Rattle.format.specs.Frames.{tokens_of};
 ghost use Rattle.format.specs.Texts.{answer_text};
 ghost use Rattle.machine.specs.Machine.{stored_call};
-ghost use Rattle.lines.specs.Lent.{Written, Ready};
+ghost use Rattle.machine.specs.Standing.{line_of};
+ghost use Rattle.lines.specs.Lent.{Found, Adds};
 
 use format::{frames, texts};
-use machine::Progress;
-use rules::Answered;
+use machine::stages::REFUSAL_BYTES;
+use machine::{Run, Tables};
+use rules::Refusal;
 
 // Where the table of level k ends in the list of all levels.
 fn table_end(items: u32, k: u32) -> usize
@@ -19,60 +21,50 @@ fn table_end(items: u32, k: u32) -> usize
     (k * (items * items)) as usize
 }
 
-// The stored answer to a list of tokens, written at a place of the output. Neither the answers nor the working area outlive a query.
+// The stored answer to a list of tokens. The working area does not outlive a query.
 fn ask_tokens(
-    p: Progress,
+    run: &Run,
+    tables: Tables,
     tokens: &[u8],
-    levels: &[u32],
-    entries: &[u32],
-    at: usize,
-    out: &mut [u8],
-) -> usize
-    requires { Ready p levels.now entries.now at out.old }
-    ensures { Written (answer_text (stored (stored_call p.items p.labels (level_of p.items levels.now p.k) (take p.entries entries.now) tokens.now))) result at out.old out.new }
+    answers: &mut [u32; 1024],
+) -> Result<u32, Refusal>
+    requires { answers.old ≡ replicate 1024 0 }
+    ensures { Found (stored_call tables.sizes.items tables.sizes.labels (level_of tables.sizes.items run.now.levels tables.sizes.k) (take tables.entries run.now.entries) tokens.now) result answers.new }
 {
-    let items = p.items;
-    let labels = p.labels;
-    let used = p.entries;
-    let to = table_end(items, p.k);
+    let items = tables.sizes.items;
+    let to = table_end(items, tables.sizes.k);
     let from = to - table_end(items, 1);
-    let mut answers = [0u32; 1024];
-    let mut area = [0u8; 9216];
-    let answered = index::stored(
+    let mut area = [0; 9216];
+    index::stored(
         items,
-        labels,
-        &levels[from..to],
-        &entries[..used],
+        tables.sizes.labels,
+        &run.levels[from..to],
+        &run.entries[..tables.entries],
         tokens,
-        &mut answers,
+        answers,
         &mut area,
-    );
-    match answered {
-        Answered::Answers(many) => {
-            texts::put_list(out, at, many, &answers);
-            7 + 4 * (many as usize)
-        }
-        Answered::Refused(refusal) => {
-            texts::put_refusal(out, at, refusal);
-            13
-        }
-    }
+    )
 }
 
-// The tokens of a query's line stand in it as digits: they are read into a list of their own, and answered.
-pub fn ask(
-    p: Progress,
-    line: &[u8],
-    levels: &[u32],
-    entries: &[u32],
-    at: usize,
-    out: &mut [u8],
-) -> usize
-    requires { (length line.now ≤ 512) × Ready p levels.now entries.now at out.old }
-    ensures { Written (answer_text (stored (stored_call p.items p.labels (level_of p.items levels.now p.k) (take p.entries entries.now) (tokens_of line.now)))) result at out.old out.new }
+// The tokens of a query's line stand in it as digits: they are read into a list of their own, and the answer to them is written at a place of the
+// output. The answers do not outlive a query.
+pub fn ask(run: &mut Run, tables: Tables, at: usize) -> usize
+    requires { at ≤ 15 }
+    ensures { Adds (answer_text (stored (stored_call tables.sizes.items tables.sizes.labels (level_of tables.sizes.items run.old.levels tables.sizes.k) (take tables.entries run.old.entries) (tokens_of (line_of run.old))))) result at run.old run.new }
 {
-    let mut tokens = [0u8; 255];
+    let line = &run.part[..run.held];
+    let mut tokens = [0; 255];
     frames::put_tokens(line, &mut tokens);
     let many = frames::token_count(line);
-    ask_tokens(p, &tokens[..many], levels, entries, at, out)
+    let mut answers = [0; 1024];
+    match ask_tokens(run, tables, &tokens[..many], &mut answers) {
+        Ok(many) => {
+            texts::put_list(&mut run.out, at, many, &answers);
+            7 + 4 * (many as usize)
+        }
+        Err(refusal) => {
+            texts::put_refusal(&mut run.out, at, refusal);
+            REFUSAL_BYTES
+        }
+    }
 }

@@ -1,138 +1,94 @@
-// The turns of the run that need the tables: they are built, and queries are answered; and the turn of any line.
-ghost use Rattle.std.specs.Prelude.{List, ℕ, ◌≤◌, length, take};
+// The turns of the run that need the tables: they are built, and queries are answered; and the turn of any line. Each answers how many bytes of
+// text stand at the front of the output.
+ghost use Rattle.std.specs.Prelude.{◌≤◌, ◌*◌, take};
 ghost use Rattle.format.specs.Frames.{tokens_of};
 ghost use Rattle.machine.specs.Machine.{Turn, builds, asked, bad_frame, on_query, on_line};
-ghost use Rattle.machine.specs.Standing.{stage_of, Fits, Comes};
-ghost use Rattle.lines.specs.Lent.{Rooms, Asks, call_of, Made};
+ghost use Rattle.machine.specs.declared.Run.{Run};
+ghost use Rattle.machine.specs.Standing.{stage_of, line_of, Comes};
+ghost use Rattle.lines.specs.Lent.{call_of, Made};
 
 use crate::asking;
 use format::{Frame, frames, texts};
-use machine::{Moved, Phase, Progress, stages};
-use rules::Built;
+use machine::{Gathered, Progress, Run, Sizes, Tables};
+use rules::{Counts, Refusal};
+
+// The bytes of the 81 line.
+const BUILT_BYTES: usize = 15;
 
 // The tables, in the program's room. Starts, order and the working area do not outlive the call: queries read only levels and entries.
-fn make_tables(p: Progress, edges: &[u32], levels: &mut [u32], entries: &mut [u32]) -> Built
-    requires { p.edges ≤ length edges.now }
-    ensures { Made (call_of p (take p.edges edges.now) levels.old entries.old) result levels.new entries.new }
+fn make_tables(run: &mut Run, gathered: Gathered) -> Result<Counts, Refusal>
+    ensures { Made (call_of gathered.sizes (take (3 * gathered.edges) run.old.edges) run.old.levels run.old.entries) result run.old run.new }
 {
-    let mut starts = [0u32; 1025];
-    let mut order = [0u32; 1024];
-    let mut area = [0u8; 9216];
+    let mut starts = [0; 1025];
+    let mut order = [0; 1024];
+    let mut area = [0; 9216];
     index::build(
-        p.items,
-        p.labels,
-        p.k,
-        &edges[..p.edges],
-        levels,
+        gathered.sizes.items,
+        gathered.sizes.labels,
+        gathered.sizes.k,
+        &run.edges[..3 * gathered.edges],
+        &mut run.levels,
         &mut starts,
         &mut order,
-        entries,
+        &mut run.entries,
         &mut area,
     )
 }
 
 // The tables are built, and the 81 line is printed; or the refusal, 1 to 6, which stops the program.
-pub fn build_tables(
-    p: Progress,
-    edges: &[u32],
-    levels: &mut [u32],
-    entries: &mut [u32],
-    out: &mut [u8],
-) -> Moved
-    requires { Fits p × Rooms edges.now levels.old entries.old out.old }
-    ensures { Comes (builds p.items p.labels p.k (take p.edges edges.now)) result edges.now levels.new entries.new out.old out.new × (result.many ≤ 15) }
+pub fn build_tables(run: &mut Run, gathered: Gathered) -> usize
+    ensures { Comes (builds gathered.sizes.items gathered.sizes.labels gathered.sizes.k (take (3 * gathered.edges) run.old.edges)) result run.old run.new × (result ≤ 15) }
 {
-    match make_tables(p, edges, levels, entries) {
-        Built::Tables(classes, pairs, many) => {
-            texts::put_built(out, classes, pairs, many);
-            Moved {
-                progress: Progress {
-                    phase: Phase::Answering,
-                    items: p.items,
-                    labels: p.labels,
-                    k: p.k,
-                    edges: p.edges,
-                    entries: 2 * (many as usize),
-                },
-                many: 15,
-            }
+    match make_tables(run, gathered) {
+        Ok(counts) => {
+            texts::put_built(&mut run.out, counts);
+            run.progress = Progress::Answering(Tables {
+                sizes: gathered.sizes,
+                entries: 2 * (counts.entries as usize),
+            });
+            BUILT_BYTES
         }
-        Built::Refused(refusal) => stages::stop(refusal, out),
+        Err(refusal) => run.stop(refusal),
     }
 }
 
 // The answer to a query behind what is printed already, if the tables are there.
-fn then_ask(t: Moved, line: &[u8], levels: &[u32], entries: &[u32], out: &mut [u8]) -> Moved
-    requires { Asks t line.now levels.now entries.now out.old }
-    ensures { (turn : Turn) (edges old : List ℕ) → Comes turn t edges levels.now entries.now old out.old → Comes (asked turn (tokens_of line.now)) result edges levels.now entries.now old out.new }
+fn then_ask(run: &mut Run, at: usize) -> usize
+    requires { at ≤ 15 }
+    ensures { (turn : Turn) (old : Run) → Comes turn at old run.old → Comes (asked turn (tokens_of (line_of run.old))) result old run.new }
 {
-    let p = t.progress;
-    let at = t.many;
-    let phase = p.phase;
-    match phase {
-        Phase::Opening => t,
-        Phase::Gathering => t,
-        Phase::Answering => {
-            let more = asking::ask(p, line, levels, entries, at, out);
-            Moved {
-                progress: p,
-                many: at + more,
-            }
-        }
-        Phase::Stopped => t,
+    match run.progress {
+        Progress::Answering(tables) => at + asking::ask(run, tables, at),
+        _ => at,
     }
 }
 
 // 03s come last: the tables are built before the first.
-fn on_query(
-    p: Progress,
-    number: u32,
-    line: &[u8],
-    edges: &[u32],
-    levels: &mut [u32],
-    entries: &mut [u32],
-    out: &mut [u8],
-) -> Moved
-    requires { Fits p × (length line.now ≤ 512) × Rooms edges.now levels.old entries.old out.old }
-    ensures { Comes (on_query (bad_frame number) (tokens_of line.now) (stage_of p edges.now levels.old entries.old)) result edges.now levels.new entries.new out.old out.new }
+fn on_query(run: &mut Run) -> usize
+    ensures { Comes (on_query (bad_frame run.old.lines) (tokens_of (line_of run.old)) (stage_of run.old)) result run.old run.new }
 {
-    let phase = p.phase;
-    match phase {
-        Phase::Opening => stages::bad_frame(number, out),
-        Phase::Gathering => {
-            let t = build_tables(p, edges, levels, entries, out);
-            then_ask(t, line, levels, entries, out)
+    match run.progress {
+        Progress::Gathering(gathered) => {
+            let many = build_tables(run, gathered);
+            then_ask(run, many)
         }
-        Phase::Answering => {
-            let t = Moved {
-                progress: p,
-                many: 0,
-            };
-            then_ask(t, line, levels, entries, out)
-        }
-        Phase::Stopped => stages::bad_frame(number, out),
+        Progress::Answering(_) => then_ask(run, 0),
+        _ => run.bad_frame(),
     }
 }
 
 // What a line says decides its turn; one that says nothing is a bad frame at any stage.
-pub fn on_line(
-    p: Progress,
-    number: u32,
-    line: &[u8],
-    edges: &mut [u32],
-    levels: &mut [u32],
-    entries: &mut [u32],
-    out: &mut [u8],
-) -> Moved
-    requires { Fits p × (length line.now ≤ 512) × Rooms edges.old levels.old entries.old out.old }
-    ensures { Comes (on_line (stage_of p edges.old levels.old entries.old) number line.now) result edges.new levels.new entries.new out.old out.new }
+pub fn on_line(run: &mut Run) -> usize
+    ensures { Comes (on_line (stage_of run.old) run.old.lines (line_of run.old)) result run.old run.new }
 {
-    match frames::frame(line) {
-        Frame::Sizes(items, labels, k) => stages::on_sizes(p, items, labels, k, number, out),
-        Frame::Edge(source, target, label) => {
-            stages::on_edge(p, source, target, label, number, edges, out)
-        }
-        Frame::Query => on_query(p, number, line, edges, levels, entries, out),
-        Frame::Faulty => stages::bad_frame(number, out),
+    match frames::frame(&run.part[..run.held]) {
+        Frame::Sizes { items, labels, k } => run.on_sizes(Sizes { items, labels, k }),
+        Frame::Edge {
+            source,
+            target,
+            label,
+        } => run.on_edge(source, target, label),
+        Frame::Query => on_query(run),
+        Frame::Faulty => run.bad_frame(),
     }
 }

@@ -1,9 +1,8 @@
 -- The whole run of the program: the bytes of standard input to the bytes of standard output, as a machine that takes one byte after the other.
-use Rattle.std.specs.Prelude.{ℕ, suc, ◌*◌, min, List, [], ◌∷◌, ◌++◌, Bool, true, false, cond, eqb, leb, ltb, length, take, replicate}
+use Rattle.std.specs.Prelude.{Err, Ok, Result, ℕ, suc, ◌*◌, min, List, [], ◌∷◌, ◌++◌, Bool, true, false, cond, eqb, leb, ltb, length, take, replicate}
+use Rattle.rules.specs.declared.Counts.{Counts}
 use Rattle.rules.specs.declared.Refusal.{Refusal}
 use Rattle.rules.specs.declared.Refusal.TheVariants.{Frame as FrameFault}
-use Rattle.rules.specs.declared.Built.{Built}
-use Rattle.rules.specs.declared.Built.TheVariants.{Tables, Refused}
 use Rattle.rules.specs.Levels.{level_of}
 use Rattle.rules.specs.Outcomes.{BuildCall, BuildEnd, build, StoredCall, stored}
 use Rattle.format.specs.declared.Frame.{Frame}
@@ -67,13 +66,13 @@ build_call items labels k edges =
     }
 
 -- the tables, and the 81 line; or the refusal, 1 to 6, which stops the program
-unfoldable pub built_by : ℕ → ℕ → ℕ → BuildEnd → Built → Turn
-built_by items labels k end (Tables classes pairs entries) =
+unfoldable pub built_by : ℕ → ℕ → ℕ → BuildEnd → Result Counts Refusal → Turn
+built_by items labels k end (Ok n) =
     record {
-      stage = answering items labels (level_of items end.levels k) (take (2 * entries) end.entries);
-      text = built_text classes pairs entries;
+      stage = answering items labels (level_of items end.levels k) (take (2 * n.entries) end.entries);
+      text = built_text n.classes n.pairs n.entries;
     }
-built_by items labels k end (Refused r) = stops r
+built_by items labels k end (Err r) = stops r
 
 unfoldable pub builds : ℕ → ℕ → ℕ → List ℕ → Turn
 builds items labels k edges = let end = build (build_call items labels k edges) in built_by items labels k end end.result

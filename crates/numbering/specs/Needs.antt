@@ -1,5 +1,5 @@
 -- What numbering a level asks and leaves, and what its check leaves.
-use Rattle.std.specs.Prelude.{ℕ, ◌+◌, ◌*◌, ◌≤◌, ◌≡◌, List, length, take, drop}
+use Rattle.std.specs.Prelude.{ℕ, ◌+◌, ◌*◌, ◌≤◌, ◌<◌, ◌≡◌, List, Option, Some, None, length, take, drop}
 use Rattle.rules.specs.Rule.{rule}
 use Rattle.rules.specs.Levels.{next_number, level_of, max_of, numbering}
 use Rattle.rules.specs.Accept.{first_fault}
@@ -18,9 +18,14 @@ pub record Numbered (n i : ℕ) (levels area : List ℕ) (r : ℕ) (levels' area
   pub placed : Placed n i levels area r levels'
   pub kept : Kept n area area'
 
--- level i is checked: its first faulty position, or n·n
-pub record Faulty (n i : ℕ) (levels area : List ℕ) (r : ℕ) (area' : List ℕ) : Type 0 where
-  pub fault : r ≡ first_fault rule (marked_graph n area) i (level_of n levels)
+-- the first faulty position of level i, or none
+pub record Fault (n i : ℕ) (levels area : List ℕ) (r : Option ℕ) : Type 0 where
+  pub found : (p : ℕ) → r ≡ Some p → (p < n * n) × (p ≡ first_fault rule (marked_graph n area) i (level_of n levels))
+  pub none : r ≡ None → n * n ≡ first_fault rule (marked_graph n area) i (level_of n levels)
+
+-- level i is checked: its first faulty position, or none
+pub record Faulty (n i : ℕ) (levels area : List ℕ) (r : Option ℕ) (area' : List ℕ) : Type 0 where
+  pub fault : Fault n i levels area r
   pub kept : Kept n area area'
 
 -- of the area the marks, the bytes of connected pairs, and what lies past the first 6·n² bytes are as they were
@@ -40,7 +45,7 @@ pub record Positioned (n i : ℕ) (levels area : List ℕ) (r : ℕ) (levels' ar
   pub placed : Placed n i levels area r levels'
   pub steady : Steady n area area'
 
--- the positions of level i are checked: the first faulty one, or n·n
-pub record Passed (n i : ℕ) (levels area : List ℕ) (r : ℕ) (area' : List ℕ) : Type 0 where
-  pub fault : r ≡ first_fault rule (marked_graph n area) i (level_of n levels)
+-- the positions of level i are checked: the first faulty one, or none
+pub record Passed (n i : ℕ) (levels area : List ℕ) (r : Option ℕ) (area' : List ℕ) : Type 0 where
+  pub fault : Fault n i levels area r
   pub steady : Steady n area area'

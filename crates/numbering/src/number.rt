@@ -1,14 +1,15 @@
 // Numbering the pairs of a level, in order of position.
 ghost use Rattle.std.specs.Prelude.{◌+◌, ◌*◌, ◌-◌, ◌<◌, ◌≤◌, length};
 ghost use Rattle.twins.specs.Chains.{Chains, bucket_of};
-ghost use Rattle.twins.specs.Halves.{Held};
+ghost use Rattle.twins.specs.Held.{Held};
 ghost use Rattle.twins.specs.Standing.{Ready, Near, is_in, alike};
 ghost use Rattle.numbering.specs.Needs.{Begun, Taken, Positioned, Numbered};
 ghost use Rattle.twins.specs.Skips.{Laid};
 
 use super::chains::{add_head, bucket, clear_heads, find_alike};
-use twins::halves::midpoints;
+use twins::kept::Kept;
 use twins::near::mark_near;
+use twins::over::Over;
 use twins::skips::lay_out;
 
 // The number of position p, where the numbers before it stand and top is the largest of them: that of an earlier position
@@ -20,19 +21,19 @@ fn next_number(
     area: &mut [u8],
     p: usize,
     top: u32,
-    mine: &mut [u64],
-    other: &mut [u64],
+    mine: &mut Kept,
+    other: &mut Kept,
 ) -> u32
-    requires { (Ready n i levels.now area.old) × (Near n i area.old) × (Begun n i levels.now area.old p top) × (p < n * n) × (Chains (is_in n i area.old) (alike n i levels.now area.old) (bucket_of n i levels.now area.old) n area.old p) × (Laid n i levels.now area.old) × (Held n i levels.now other.old) × (384 ≤ length mine.old) }
-    ensures { (Taken n i levels.now area.old p result area.new) × (Held n i levels.now other.new) }
+    requires { (Ready n i levels.now area.old) × (Near n i area.old) × (Begun n i levels.now area.old p top) × (p < n * n) × (Chains (is_in n i area.old) (alike n i levels.now area.old) (bucket_of n i levels.now area.old) n area.old p) × (Laid n i levels.now area.old) × (Held n i levels.now mine.old) × (Held n i levels.now other.old) }
+    ensures { (Taken n i levels.now area.old p result area.new) × (Held n i levels.now mine.new) × (Held n i levels.now other.new) }
 {
     if area[n * n + p] == 0 {
         return 0;
     }
-    let k = midpoints(n, i, levels, area, p, mine);
-    let b = bucket(n, area, p, mine, k);
-    let q = find_alike(n, i, levels, area, p, b, mine, k, other);
-    if q < p {
+    let over = Over { n, i, levels, area };
+    mine.keep(over, p);
+    let b = bucket(over.steps(), p, mine.midpoints());
+    if let Some(q) = find_alike(over, p, b, mine.midpoints(), other) {
         return levels[(i - 1) * (n * n) + q];
     }
     add_head(n, area, b, p);
@@ -45,17 +46,13 @@ fn number_positions(n: usize, i: usize, levels: &mut [u32], area: &mut [u8]) -> 
     ensures { Positioned n i levels.old area.old result levels.new area.new }
 {
     let start = (i - 1) * (n * n);
-    let mut mine: [u64; 384] = [0; 384];
-    let mut other: [u64; 386] = [0; 386];
+    let mut mine = Kept::new();
+    let mut other = Kept::new();
     let mut top: u32 = 0;
-    let mut p = 0;
-    while p < n * n {
+    for p in 0..n * n {
         let k = next_number(n, i, levels, area, p, top, &mut mine, &mut other);
         levels[start + p] = k;
-        if top < k {
-            top = k;
-        }
-        p += 1;
+        top = top.max(k);
     }
     top
 }

@@ -2,36 +2,36 @@
 
 #![tactic(auto)]
 
-ghost use Rattle.std.specs.Prelude.{◌≡◌, ◌≤◌, length};
+ghost use Rattle.std.specs.Prelude.{◌≡◌, ◌≤◌, ◌<◌, length, MatchOption};
 ghost use Rattle.std.proofs.Math.Seq.{slice};
 ghost use Rattle.rules.specs.Lists.{code_from};
 ghost use Rattle.rules.specs.Outcomes.{run_bounds, part_of};
 ghost use Rattle.rules.specs.Promises.{GivesPairs, HandsPairs, LooksUp, HandsEntries};
 ghost use Rattle.parts.specs.Parts.{first_unknown, Inside};
 
-use rules::{Bounds, Refusal};
+use rules::{Part, Refusal};
 use stored::runs;
 
 // Where the pairs of class c stand in the order list, or 14.
-pub fn class_bounds(c: u32, starts: &[u32], order: &[u32]) -> Bounds
+pub fn class_bounds(c: u32, starts: &[u32], order: &[u32]) -> Result<Part, Refusal>
     ensures { GivesPairs c starts.now order.now result }
 {
     let at = c as usize;
     if at == 0 {
-        return Bounds::Refused(Refusal::NoClass);
+        return Err(Refusal::NoClass);
     }
     if starts.len() <= at {
-        return Bounds::Refused(Refusal::NoClass);
+        return Err(Refusal::NoClass);
     }
     let from = starts[at - 1] as usize;
     let to = starts[at] as usize;
     if to < from {
-        return Bounds::Refused(Refusal::NoClass);
+        return Err(Refusal::NoClass);
     }
     if order.len() < to {
-        return Bounds::Refused(Refusal::NoClass);
+        return Err(Refusal::NoClass);
     }
-    Bounds::Part(from, to)
+    Ok(Part { from, to })
 }
 
 // The numbers from `from` up to but without `to`.
@@ -43,13 +43,13 @@ fn between(list: &[u32], from: usize, to: usize) -> &[u32]
 }
 
 // The part of the list that bounds inside it give, empty on a refusal.
-fn part_of(list: &[u32], bounds: Bounds) -> &[u32]
+fn part_of(list: &[u32], bounds: Result<Part, Refusal>) -> &[u32]
     requires { Inside bounds list.now }
     ensures { result.now ≡ part_of list.now bounds }
 {
     match bounds {
-        Bounds::Part(first, end) => between(list, first, end),
-        Bounds::Refused(_) => &list[..0],
+        Ok(part) => between(list, part.from, part.to),
+        Err(_) => &list[..0],
     }
 }
 
@@ -61,25 +61,19 @@ pub fn class_pairs<'a>(c: u32, starts: &[u32], order: &'a [u32]) -> &'a [u32]
     part_of(order, bounds)
 }
 
-// The place of the first symbol that is not 1 to 16, or as many as there are.
-fn first_unknown(symbols: &[u8]) -> usize
-    ensures { result ≡ first_unknown symbols.now }
+// The place of the first symbol that is not 1 to 16.
+fn first_unknown(symbols: &[u8]) -> Option<usize>
+    ensures { MatchOption result (length symbols.now ≡ first_unknown symbols.now) (λ i. (i ≡ first_unknown symbols.now) × (i < length symbols.now)) }
 {
-    for i in 0..symbols.len() {
-        if symbols[i] == 0 {
-            return i;
+    for (i, symbol) in symbols.iter().enumerate() {
+        if *symbol == 0 {
+            return Some(i);
         }
-        if symbols[i] > 16 {
-            return i;
+        if *symbol > 16 {
+            return Some(i);
         }
     }
-    symbols.len()
-}
-
-fn wide(symbol: u8) -> u32
-    ensures { result ≡ symbol }
-{
-    symbol as u32
+    None
 }
 
 // The code of a sequence.
@@ -88,36 +82,38 @@ fn code_of(symbols: &[u8]) -> u32
     ensures { result ≡ code_from 0 symbols.now }
 {
     let mut code: u32 = 0;
-    for i in 0..symbols.len() {
-        code = code * 17 + wide(symbols[i]);
+    for symbol in symbols {
+        code = code * 17 + u32::from(*symbol);
     }
     code
 }
 
 // Where the run of a code stands in the entry list; 0 and 0 if there is none.
-fn run_bounds(entries: &[u32], code: u32) -> Bounds
+fn run_bounds(entries: &[u32], code: u32) -> Result<Part, Refusal>
     ensures { result ≡ run_bounds entries.now code }
 {
     let from = runs::first_entry(entries, code);
     if from >= entries.len() / 2 {
-        return Bounds::Part(0, 0);
+        return Ok(Part { from: 0, to: 0 });
     }
     let to = runs::run_end(entries, code, from);
     let first = 2 * from;
     let end = 2 * to;
-    Bounds::Part(first, end)
+    Ok(Part {
+        from: first,
+        to: end,
+    })
 }
 
 // Where the entries of a sequence of symbols stand in the entry list, or 12 or 8.
-pub fn lookup_bounds(symbols: &[u8], entries: &[u32]) -> Bounds
+pub fn lookup_bounds(symbols: &[u8], entries: &[u32]) -> Result<Part, Refusal>
     ensures { LooksUp symbols.now entries.now result }
 {
     if symbols.len() > 4 {
-        return Bounds::Refused(Refusal::TooLong);
+        return Err(Refusal::TooLong);
     }
-    let bad = first_unknown(symbols);
-    if bad < symbols.len() {
-        return Bounds::Refused(Refusal::Unknown(bad as u32));
+    if let Some(bad) = first_unknown(symbols) {
+        return Err(Refusal::Unknown(bad as u32));
     }
     run_bounds(entries, code_of(symbols))
 }

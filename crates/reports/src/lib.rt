@@ -1,11 +1,12 @@
-// The paper's number and values for each answer, as document 01's table has them.
+// The paper's number and values for each answer, as document 01's table has them. Functions and no `From`: `Report` is a type of
+// `rules`, and a crate writes no impl of another crate's trait for another crate's type.
 
 #![tactic(auto)]
 
 ghost use Rattle.std.specs.Prelude.{◌≡◌};
-ghost use Rattle.rules.specs.Numbers.{report, of_refusal, of_built, of_checked, of_answered};
+ghost use Rattle.rules.specs.Numbers.{report, list_number, of_refusal, of_built, of_checked, of_answered};
 
-use rules::{Answered, Built, Checked, Refusal, Report};
+use rules::{ClassList, Counts, Refusal, Report};
 
 fn numbers(number: u32, a: u32, b: u32) -> Report
     ensures { result ≡ report number a b 0 }
@@ -13,7 +14,19 @@ fn numbers(number: u32, a: u32, b: u32) -> Report
     Report { number, a, b, c: 0 }
 }
 
+// The number that refusal 16 has for a list.
+#[tactic(auto, unfolding(rules::specs::Numbers::list_number))]
+fn list_number(list: ClassList) -> u32
+    ensures { result ≡ list_number list }
+{
+    match list {
+        ClassList::Starts => 1,
+        ClassList::Order => 2,
+    }
+}
+
 // A refusal's number and values.
+#[tactic(auto, unfolding(rules::specs::Numbers::of_refusal))]
 pub fn report_refusal(r: Refusal) -> Report
     ensures { result ≡ of_refusal r }
 {
@@ -33,43 +46,46 @@ pub fn report_refusal(r: Refusal) -> Report
         Refusal::AnswerRoom(need) => numbers(13, need, 0),
         Refusal::NoClass => numbers(14, 0, 0),
         Refusal::LevelFault(level, position) => numbers(15, level, position),
-        Refusal::ListFault(list, index) => numbers(16, list, index),
+        Refusal::ListFault(list, index) => numbers(16, list_number(list), index),
         Refusal::EntryFault(index) => numbers(17, index, 0),
         Refusal::Frame(line) => numbers(18, line, 0),
     }
 }
 
 // Build: the number of classes, of connected pairs and of entries, or the refusal.
-pub fn report_built(answer: Built) -> Report
+#[tactic(auto, unfolding(rules::specs::Numbers::of_built))]
+pub fn report_built(answer: Result<Counts, Refusal>) -> Report
     ensures { result ≡ of_built answer }
 {
     match answer {
-        Built::Tables(classes, pairs, entries) => Report {
+        Ok(counts) => Report {
             number: 0,
-            a: classes,
-            b: pairs,
-            c: entries,
+            a: counts.classes,
+            b: counts.pairs,
+            c: counts.entries,
         },
-        Built::Refused(r) => report_refusal(r),
+        Err(refusal) => report_refusal(refusal),
     }
 }
 
 // Check: 0, or the refusal.
-pub fn report_checked(answer: Checked) -> Report
+#[tactic(auto, unfolding(rules::specs::Numbers::of_checked))]
+pub fn report_checked(answer: Result<(), Refusal>) -> Report
     ensures { result ≡ of_checked answer }
 {
     match answer {
-        Checked::Accepted => numbers(0, 0, 0),
-        Checked::Refused(r) => report_refusal(r),
+        Ok(()) => numbers(0, 0, 0),
+        Err(refusal) => report_refusal(refusal),
     }
 }
 
 // Direct, stored and class answer: how many answers, or the refusal.
-pub fn report_answered(answer: Answered) -> Report
+#[tactic(auto, unfolding(rules::specs::Numbers::of_answered))]
+pub fn report_answered(answer: Result<u32, Refusal>) -> Report
     ensures { result ≡ of_answered answer }
 {
     match answer {
-        Answered::Answers(many) => numbers(0, many, 0),
-        Answered::Refused(r) => report_refusal(r),
+        Ok(many) => numbers(0, many, 0),
+        Err(refusal) => report_refusal(refusal),
     }
 }

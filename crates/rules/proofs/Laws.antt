@@ -20,6 +20,7 @@ pub mod Numbered
 pub mod Lawful
 pub mod Levels
 pub mod Accepted
+pub mod Results
 pub mod AllOrNone
 pub mod Builder
 pub mod Entries

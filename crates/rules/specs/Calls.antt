@@ -1,8 +1,7 @@
 -- The calls of the entries, from what is lent, and how they end.
-use Rattle.std.specs.Prelude.{ℕ, List}
-use Rattle.rules.specs.declared.Built.{Built}
-use Rattle.rules.specs.declared.Checked.{Checked}
-use Rattle.rules.specs.declared.Answered.{Answered}
+use Rattle.rules.specs.declared.Counts.{Counts}
+use Rattle.rules.specs.declared.Refusal.{Refusal}
+use Rattle.std.specs.Prelude.{Result, ℕ, List}
 use Rattle.rules.specs.Accept.{Index}
 use Rattle.rules.specs.Outcomes.{BuildCall, BuildEnd, CheckCall, CheckEnd, DirectCall, StoredCall, ClassCall, AnswerEnd}
 
@@ -20,7 +19,7 @@ build_call items labels k edges levels starts order entries area =
       area = area;
     }
 
-abbrev pub build_end : Built → List ℕ → List ℕ → List ℕ → List ℕ → List ℕ → BuildEnd
+abbrev pub build_end : Result Counts Refusal → List ℕ → List ℕ → List ℕ → List ℕ → List ℕ → BuildEnd
 build_end result levels starts order entries area =
     record { result = result; levels = levels; starts = starts; order = order; entries = entries; area = area }
 
@@ -32,7 +31,7 @@ abbrev pub check_call : ℕ → ℕ → ℕ → List ℕ → List ℕ → List �
 check_call items labels k edges levels starts order entries area =
     record { edges = edges; index = index_of items labels k levels starts order entries; area = area }
 
-abbrev pub check_end : Checked → List ℕ → CheckEnd
+abbrev pub check_end : Result Unit Refusal → List ℕ → CheckEnd
 check_end result area = record { result = result; area = area }
 
 abbrev pub direct_call : ℕ → ℕ → List ℕ → List ℕ → List ℕ → List ℕ → DirectCall
@@ -47,5 +46,5 @@ abbrev pub class_call : ℕ → ℕ → ℕ → List ℕ → List ℕ → List �
 class_call items labels k table entries tokens answers area =
     record { items = items; labels = labels; k = k; table = table; entries = entries; tokens = tokens; answers = answers; area = area }
 
-abbrev pub ended : Answered → List ℕ → List ℕ → AnswerEnd
+abbrev pub ended : Result ℕ Refusal → List ℕ → List ℕ → AnswerEnd
 ended result answers area = record { result = result; answers = answers; area = area }

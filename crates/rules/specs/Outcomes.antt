@@ -1,16 +1,10 @@
 -- For each entry: the call, and as functions of it the result and every lent buffer afterwards.
-use Rattle.std.specs.Prelude.{ℕ, suc, pred, ◌*◌, ◌/◌, List, [], ◌++◌, ◌||◌, cond, eqb, leb, ltb, length, get_or, take, drop}
+use Rattle.rules.specs.declared.Counts.{Counts}
+use Rattle.rules.specs.declared.Part.{Part}
+use Rattle.std.specs.Prelude.{Err, Ok, Result, ℕ, suc, pred, ◌*◌, ◌/◌, List, [], ◌++◌, ◌||◌, cond, eqb, leb, ltb, length, get_or, take, drop}
 use Rattle.std.proofs.Math.Seq.{slice}
 use Rattle.rules.specs.declared.Refusal.{Refusal}
 use Rattle.rules.specs.declared.Refusal.TheVariants.{EntryRoom, AnswerRoom, NoClass}
-use Rattle.rules.specs.declared.Built.{Built}
-use Rattle.rules.specs.declared.Built.TheVariants.{Tables, Refused as NotBuilt}
-use Rattle.rules.specs.declared.Checked.{Checked}
-use Rattle.rules.specs.declared.Checked.TheVariants.{Accepted, Refused as NotAccepted}
-use Rattle.rules.specs.declared.Answered.{Answered}
-use Rattle.rules.specs.declared.Answered.TheVariants.{Answers, Refused as NotAnswered}
-use Rattle.rules.specs.declared.Bounds.{Bounds}
-use Rattle.rules.specs.declared.Bounds.TheVariants.{Part, Refused as NoPart}
 use Rattle.rules.specs.Finite.{table_below}
 use Rattle.rules.specs.Graph.{Graph, graph_of}
 use Rattle.rules.specs.Query.{answer_of}
@@ -25,6 +19,14 @@ use Rattle.rules.specs.Accept.{Index, top_of, accepts, built_index}
 -- a list written at the front of a lent one; numbers past it never change
 unfoldable pub front : List ℕ → List ℕ → List ℕ
 front list old = list ++ drop (length list) old
+
+-- what build answers: how many classes, connected pairs and entries there are
+abbrev pub counted : ℕ → ℕ → ℕ → Counts
+counted classes pairs entries = record { classes = classes; pairs = pairs; entries = entries }
+
+-- a part of the caller's list: from the first index up to but without the second
+abbrev pub span : ℕ → ℕ → Part
+span from to = record { from = from; to = to }
 
 -- the working area with its first 9·V² bytes zero
 unfoldable pub zeroed : ℕ → List ℕ → List ℕ
@@ -43,7 +45,7 @@ pub record BuildCall : Type 0 where
   pub area : List ℕ
 
 pub record BuildEnd : Type 0 where
-  pub result : Built
+  pub result : Result Counts Refusal
   pub levels : List ℕ
   pub starts : List ℕ
   pub order : List ℕ
@@ -66,7 +68,7 @@ build_refusal c =
 unfoldable pub build_nothing : BuildCall → Refusal → BuildEnd
 build_nothing c r =
     record {
-      result = NotBuilt r;
+      result = Err r;
       levels = c.levels;
       starts = c.starts;
       order = c.order;
@@ -80,7 +82,7 @@ build_tables c x =
     let many = length x.entries / 2 in
     let fits = leb many (length c.entries / 2) in
     record {
-      result = cond fits (Tables (max_of (top_of x)) (length x.order) many) (NotBuilt (EntryRoom many));
+      result = cond fits (Ok (counted (max_of (top_of x)) (length x.order) many)) (Err (EntryRoom many));
       levels = front x.levels c.levels;
       starts = front x.starts c.starts;
       order = front x.order c.order;
@@ -119,7 +121,7 @@ pub record CheckCall : Type 0 where
   pub area : List ℕ
 
 pub record CheckEnd : Type 0 where
-  pub result : Checked
+  pub result : Result Unit Refusal
   pub area : List ℕ
 
 -- check's order of refusals before any work: 1 2 3 4 5
@@ -138,20 +140,20 @@ unfoldable pub check_graph : CheckCall → Graph
 check_graph c = graph_of c.index.items c.index.labels c.edges
 
 -- what a verdict is told as
-unfoldable pub told : Verdict → Checked
-told good = Accepted
-told (refuse r) = NotAccepted r
+unfoldable pub told : Verdict → Result Unit Refusal
+told good = Ok tt
+told (refuse r) = Err r
 
 unfoldable pub check_after : CheckCall → Verdict → CheckEnd
 check_after c good = record { result = told (accepts rule (check_graph c) c.index); area = zeroed c.index.items c.area }
-check_after c (refuse r) = record { result = NotAccepted r; area = c.area }
+check_after c (refuse r) = record { result = Err r; area = c.area }
 
 unfoldable pub check : CheckCall → CheckEnd
 check c = check_after c (check_refusal c)
 
 -- the three answers leave a result, the answer list and the area
 pub record AnswerEnd : Type 0 where
-  pub result : Answered
+  pub result : Result ℕ Refusal
   pub answers : List ℕ
   pub area : List ℕ
 
@@ -160,11 +162,11 @@ unfoldable pub answer_after : ℕ → List ℕ → List ℕ → List ℕ → Ver
 answer_after items list answers area good =
     let fits = leb (length list) (length answers) in
     record {
-      result = cond fits (Answers (length list)) (NotAnswered (AnswerRoom (length list)));
+      result = cond fits (Ok (length list)) (Err (AnswerRoom (length list)));
       answers = cond fits (front list answers) answers;
       area = zeroed items area;
     }
-answer_after items list answers area (refuse r) = record { result = NotAnswered r; answers = answers; area = area }
+answer_after items list answers area (refuse r) = record { result = Err r; answers = answers; area = area }
 
 -- direct answer
 pub record DirectCall : Type 0 where
@@ -241,27 +243,27 @@ class_list c = class_answer c.items c.table c.entries (query_of (read_tokens c.l
 unfoldable pub class : ClassCall → AnswerEnd
 class c = answer_after c.items (class_list c) c.answers c.area (class_refusal c)
 
--- a part of the caller's list: its bounds, and the numbers in it
-unfoldable pub part_of : List ℕ → Bounds → List ℕ
-part_of list (Part from to) = slice from to list
-part_of list (NoPart r) = []
+-- the numbers that stand in a part, none on a refusal
+unfoldable pub part_of : List ℕ → Result Part Refusal → List ℕ
+part_of list (Ok part) = slice part.from part.to list
+part_of list (Err r) = []
 
 -- pairs of a class: 14 if c is 0, starts has no place c, or its two bounds are out of order or pass the order list
-unfoldable pub class_bounds : ℕ → List ℕ → List ℕ → Bounds
+unfoldable pub class_bounds : ℕ → List ℕ → List ℕ → Result Part Refusal
 class_bounds c starts order =
     let from = get_or starts (pred c) 0 in
     let to = get_or starts c 0 in
-    cond (eqb c 0 || (leb (length starts) c || (ltb to from || ltb (length order) to))) (NoPart NoClass) (Part from to)
+    cond (eqb c 0 || (leb (length starts) c || (ltb to from || ltb (length order) to))) (Err NoClass) (Ok (span from to))
 
 -- the bounds of the run of a code, in numbers of the entry list; 0 and 0 if there is none
-unfoldable pub run_bounds : List ℕ → ℕ → Bounds
+unfoldable pub run_bounds : List ℕ → ℕ → Result Part Refusal
 run_bounds entries code =
-    cond (ltb (part_from entries code) (length entries / 2)) (Part (2 * part_from entries code) (2 * part_to entries code)) (Part 0 0)
+    cond (ltb (part_from entries code) (length entries / 2)) (Ok (span (2 * part_from entries code) (2 * part_to entries code))) (Ok (span 0 0))
 
-unfoldable pub lookup_after : List ℕ → List ℕ → Verdict → Bounds
+unfoldable pub lookup_after : List ℕ → List ℕ → Verdict → Result Part Refusal
 lookup_after symbols entries good = run_bounds entries (code_from 0 symbols)
-lookup_after symbols entries (refuse r) = NoPart r
+lookup_after symbols entries (refuse r) = Err r
 
 -- sequence lookup: 12, 8
-unfoldable pub lookup_bounds : List ℕ → List ℕ → Bounds
+unfoldable pub lookup_bounds : List ℕ → List ℕ → Result Part Refusal
 lookup_bounds symbols entries = lookup_after symbols entries (few_symbols symbols or_else known_symbols symbols)

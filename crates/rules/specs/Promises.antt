@@ -1,6 +1,7 @@
 -- What each public entry promises: an equation for the result and one for each lent buffer.
-use Rattle.std.specs.Prelude.{ℕ, ◌≡◌, List}
-use Rattle.rules.specs.declared.Bounds.{Bounds}
+use Rattle.rules.specs.declared.Part.{Part}
+use Rattle.rules.specs.declared.Refusal.{Refusal}
+use Rattle.std.specs.Prelude.{Result, ℕ, ◌≡◌, List}
 use Rattle.rules.specs.Outcomes.{BuildCall, BuildEnd, build, CheckCall, CheckEnd, check, AnswerEnd, DirectCall, direct, StoredCall, stored, ClassCall, class, class_bounds, lookup_bounds, part_of}
 
 -- build, called with c, ended with e
@@ -33,14 +34,14 @@ abbrev pub AnswersClasses : ClassCall → AnswerEnd → Type 0
 AnswersClasses c = Ends (class c)
 
 -- pairs of a class: the bounds in the order list, and the part itself
-pub record GivesPairs (c : ℕ) (starts order : List ℕ) (result : Bounds) : Type 0 where
+pub record GivesPairs (c : ℕ) (starts order : List ℕ) (result : Result Part Refusal) : Type 0 where
   pub bounds : result ≡ class_bounds c starts order
 
 pub record HandsPairs (c : ℕ) (starts order part : List ℕ) : Type 0 where
   pub numbers : part ≡ part_of order (class_bounds c starts order)
 
 -- sequence lookup: the bounds in the entry list, and the part itself
-pub record LooksUp (symbols entries : List ℕ) (result : Bounds) : Type 0 where
+pub record LooksUp (symbols entries : List ℕ) (result : Result Part Refusal) : Type 0 where
   pub bounds : result ≡ lookup_bounds symbols entries
 
 pub record HandsEntries (symbols entries part : List ℕ) : Type 0 where

@@ -1,4 +1,4 @@
-// What the entries of the index answer, what a token says, and an answer as the paper's numbers. The rules themselves stand in specs/.
+// What the entries answer and refuse, what a token says, and an answer as the paper's numbers. The rules themselves stand in specs/.
 
 #![tactic(auto)]
 
@@ -35,12 +35,19 @@ pub enum Refusal {
     NoClass,
     // 15: the level, and its first faulty position
     LevelFault(u32, u32),
-    // 16: the list, 1 starts and 2 order, and the index
-    ListFault(u32, u32),
+    // 16: the list, and the index
+    ListFault(ClassList, u32),
     // 17: the index in the entry list
     EntryFault(u32),
     // 18: the line of the program's input
     Frame(u32),
+}
+
+// The lists that say which pairs a class has.
+#[derive(Clone, Copy)]
+pub enum ClassList {
+    Starts,
+    Order,
 }
 
 // What a token byte says.
@@ -53,32 +60,19 @@ pub enum Token {
     Unknown,
 }
 
-// Build: the number of classes, of connected pairs and of entries.
+// What build answers: how many classes, connected pairs and entries there are.
 #[derive(Clone, Copy)]
-pub enum Built {
-    Tables(u32, u32, u32),
-    Refused(Refusal),
+pub struct Counts {
+    pub classes: u32,
+    pub pairs: u32,
+    pub entries: u32,
 }
 
-// Check.
+// A part of the caller's list, from the first index up to but without the second.
 #[derive(Clone, Copy)]
-pub enum Checked {
-    Accepted,
-    Refused(Refusal),
-}
-
-// Direct, stored and class answer: how many stand in the answer list.
-#[derive(Clone, Copy)]
-pub enum Answered {
-    Answers(u32),
-    Refused(Refusal),
-}
-
-// Pairs of a class and sequence lookup: the part of the caller's list, from the first index up to but without the second.
-#[derive(Clone, Copy)]
-pub enum Bounds {
-    Part(usize, usize),
-    Refused(Refusal),
+pub struct Part {
+    pub from: usize,
+    pub to: usize,
 }
 
 // An answer as numbers: document 01's number and up to three values, 0 where the table names none.

@@ -1,88 +1,49 @@
 // Pairs of a class and sequence lookup: the bounds of a part, and the part itself.
-use cases::{forms, store};
-use rules::{Bounds, Report};
+use cases::case::Case;
+use rules::{Part, Refusal, Report};
 
 // No list is so long that a bound does not fit.
 fn narrow(bound: usize) -> u32 {
-    if bound > 4294967295 {
-        return 4294967295;
-    }
-    bound as u32
+    u32::try_from(bound).unwrap_or(u32::MAX)
 }
 
-fn report_bounds(bounds: Bounds) -> Report {
+// What the bounds say. Where the part that is handed out is not what they name, or is not empty where the entry refuses, what no entry
+// returns.
+fn report_part(bounds: Result<Part, Refusal>, part: &[u32], list: &[u32]) -> Report {
     match bounds {
-        Bounds::Part(from, to) => Report {
+        Ok(Part { from, to }) if list.get(from..to) == Some(part) => Report {
             number: 0,
             a: 0,
             b: narrow(from),
             c: narrow(to),
         },
-        Bounds::Refused(r) => reports::report_refusal(r),
+        Err(refusal) if part.is_empty() => reports::report_refusal(refusal),
+        _ => Report {
+            number: 0,
+            a: 1,
+            b: 0,
+            c: 0,
+        },
     }
 }
 
-// Whether a part has the numbers of the list from a place up to but without another.
-fn is_between(part: &[u32], list: &[u32], from: usize, to: usize) -> bool {
-    let mut at = from;
-    for x in part {
-        if to <= at {
-            return false;
-        }
-        if store::number(list, at) != *x {
-            return false;
-        }
-        at += 1;
-    }
-    at == to
+pub fn pairs(case: &Case<'_>) -> Report {
+    let [class, _, _] = case.numbers;
+    let starts = case.starts.numbers();
+    let order = case.order.numbers();
+    report_part(
+        index::class_bounds(class, starts, order),
+        index::class_pairs(class, starts, order),
+        order,
+    )
 }
 
-// Whether the part that is handed out is the one that the bounds say: none where the entry refuses.
-fn is_part(part: &[u32], list: &[u32], bounds: Bounds) -> bool {
-    match bounds {
-        Bounds::Part(from, to) => is_between(part, list, from, to),
-        Bounds::Refused(_) => part.len() == 0,
-    }
-}
-
-// What the bounds say; where the part is another, what no entry returns.
-fn report_part(part: &[u32], list: &[u32], bounds: Bounds) -> Report {
-    if is_part(part, list, bounds) {
-        return report_bounds(bounds);
-    }
-    Report {
-        number: 0,
-        a: 1,
-        b: 0,
-        c: 0,
-    }
-}
-
-pub fn pairs(store: &[u32]) -> Report {
-    let c = store::number(store, store::FIRST);
-    let starts = store::numbers(store, forms::STARTS);
-    let order = store::numbers(store, forms::ORDER);
-    let bounds = index::class_bounds(c, starts, order);
-    report_part(index::class_pairs(c, starts, order), order, bounds)
-}
-
-fn call_lookup(symbols: &[u8], store: &[u32]) -> Report {
-    let entries = store::numbers(store, forms::ENTRIES);
-    let bounds = index::lookup_bounds(symbols, entries);
-    report_part(index::lookup(symbols, entries), entries, bounds)
-}
-
-fn lookup_with(symbols: &mut [u8], store: &mut [u32]) -> Report {
-    let report = call_lookup(symbols, store);
-    store::keep_bytes(store, forms::TOKENS, symbols);
-    report
-}
-
-// The symbols are lent as a copy, and put back behind the call.
-pub fn lookup(store: &mut [u32]) -> Report {
-    let mut symbols = [0u8; 80];
-    lookup_with(
-        store::fetch_bytes(store, forms::TOKENS, &mut symbols),
-        store,
+pub fn lookup(case: &Case<'_>) -> Report {
+    let symbols = case.tokens.numbers();
+    let entries = case.entries.numbers();
+    report_part(
+        index::lookup_bounds(symbols, entries),
+        index::lookup(symbols, entries),
+        entries,
     )
 }

@@ -1,16 +1,10 @@
 -- Chains of positions in the area: those of one bucket, the latest first. Alike positions have one bucket.
-use Rattle.std.specs.Prelude.{ℕ, zero, suc, ◌+◌, ◌*◌, ◌/◌, ◌%◌, ◌≤◌, ◌<◌, max, ◌≡◌, List, Bool, true, false, ◌||◌, cond, eqb, get_or, take, set}
+use Rattle.std.specs.Prelude.{ℕ, zero, suc, ◌+◌, ◌*◌, ◌/◌, ◌%◌, ◌≤◌, ◌<◌, max, ◌≡◌, List, Bool, true, false, ◌||◌, cond, eqb, get_or, take, Option, Some, None}
 use Rattle.rules.specs.Finite.{any_below}
 use Rattle.rules.specs.Rule.{rule}
 use Rattle.rules.specs.Levels.{number_at, level_of, matches}
 use Rattle.twins.specs.Halves.{midpoint_of}
-
--- two bytes as one number, the low byte first
-unfoldable pub word : List ℕ → ℕ → ℕ
-word w at = get_or w at 0 + 256 * get_or w (at + 1) 0
-
-unfoldable pub set_word : List ℕ → ℕ → ℕ → List ℕ
-set_word w at x = set (set w at (x % 256)) (at + 1) (x / 256)
+unfoldable pub use Rattle.packing.specs.Words.{word, set_word}
 
 -- behind the marks and the bytes of connected pairs: a link for each position, then a head for each bucket
 unfoldable pub link_of : ℕ → List ℕ → ℕ → ℕ
@@ -41,10 +35,10 @@ pub record Chains (is_in : ℕ → Bool) (alike : ℕ → ℕ → Bool) (bucket 
   pub sound : (b x : ℕ) → b < n * n → Linked (link_of n area) (head_of n area b) x → Met is_in (link_of n area) p x
   pub complete : (q : ℕ) → q < p → is_in q ≡ true → Stored alike (link_of n area) (head_of n area (bucket q)) q
 
--- q is an earlier position alike p; or it is p, and there is none
-pub record Answer (is_in : ℕ → Bool) (alike : ℕ → ℕ → Bool) (p q : ℕ) : Type 0 where
-  pub found : q < p → (is_in q ≡ true) × (alike q p ≡ true)
-  pub none : p ≤ q → any_below p (matches is_in alike p) ≡ false
+-- an earlier position alike p; or there is none
+pub record Answer (is_in : ℕ → Bool) (alike : ℕ → ℕ → Bool) (p : ℕ) (r : Option ℕ) : Type 0 where
+  pub found : (q : ℕ) → r ≡ Some q → (q < p) × (is_in q ≡ true) × (alike q p ≡ true)
+  pub none : r ≡ None → any_below p (matches is_in alike p) ≡ false
 
 -- the marks of a pair, there and back, as one number
 unfoldable pub key_of : ℕ → List ℕ → ℕ → ℕ
@@ -66,13 +60,6 @@ mid_hash k n s t c v u m = cond (eqb (number_at n s v m) 0 || eqb (number_at n t
 unfoldable pub most_below : ℕ → (ℕ → ℕ) → ℕ
 most_below zero f = 0
 most_below (suc n) f = max (most_below n f) (f n)
-
--- four numbers below 2^32
-pub record Small (a b c d : ℕ) : Type 0 where
-  pub none : a < 4294967296
-  pub quarter : b < 4294967296
-  pub half : c < 4294967296
-  pub most : d < 4294967296
 
 -- four numbers, each the larger of what it was and a turn of the hash of x
 pub record Raised (x a b c d a' b' c' d' : ℕ) : Type 0 where

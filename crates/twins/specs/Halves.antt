@@ -1,9 +1,8 @@
 -- The midpoints of a pair as a list of numbers, each made of a split and the numbers of the two halves.
-use Rattle.std.specs.Prelude.{ℕ, ◌+◌, ◌*◌, ◌/◌, ◌%◌, ◌≤◌, ◌<◌, ◌≡◌, List, Bool, eqb, length, get_or}
+use Rattle.std.specs.Prelude.{ℕ, ◌+◌, ◌*◌, ◌≤◌, ◌<◌, ◌≡◌, List, Bool, eqb, length, get_or}
 use Rattle.rules.specs.Finite.{any_below}
 use Rattle.rules.specs.Rule.{rule}
 use Rattle.rules.specs.Levels.{number_at, level_of}
-use Rattle.twins.specs.Standing.{Stands}
 use Rattle.twins.specs.Skips.{Skips}
 
 -- a split and two numbers in one; they can be told from it while the first number is below 2^15 and the second below 2^32
@@ -24,14 +23,12 @@ pub record Listed (k : ℕ) (list : List ℕ) (x : ℕ) : Type 0 where
   pub below : place < k
   pub is : get_or list place 0 ≡ x
 
--- the midpoints of split c can be looked for: the levels of both halves stand, the numbers of the first are small, and the area
--- tells which items it does not connect
-pub record Searchable (n : ℕ) (levels area : List ℕ) (c first second : ℕ) : Type 0 where
+-- the midpoints of split c can be looked for: the numbers of the level of the first halves are small, and the area tells which items it
+-- does not connect
+pub record Searchable (n : ℕ) (s area : List ℕ) (c : ℕ) : Type 0 where
   pub few : c < 3
-  pub first_stands : Stands n levels first
-  pub second_stands : Stands n levels second
-  pub small : (w y : ℕ) → number_at n (level_of n levels first) w y < 32768
-  pub skips : Skips n (level_of n levels first) area
+  pub small : (w y : ℕ) → number_at n s w y < 32768
+  pub skips : Skips n s area
 
 -- behind the first k of a list stand, up to place at, midpoints of (v,u) in split c among the first m items; those that are missing stand before
 pub record Halves (n : ℕ) (s t : List ℕ) (c v u m k : ℕ) (before : List ℕ) (at : ℕ) (list : List ℕ) : Type 0 where
@@ -62,11 +59,6 @@ pub record Midpoints (n i : ℕ) (levels : List ℕ) (v u k : ℕ) (list : List 
   pub short : k ≤ 384
   pub small : (j : ℕ) → 0 < j → j < i → (w y : ℕ) → number_at n (level_of n levels j) w y < 32768
   pub listing : Listing n i levels v u (rule.many i) k list
-
--- behind its first 384 places the list tells of which position, one more, the midpoints in it are, and how many
-pub record Held (n i : ℕ) (levels list : List ℕ) : Type 0 where
-  pub room : length list ≡ 386
-  pub listed : (q : ℕ) → get_or list 384 0 ≡ q + 1 → Midpoints n i levels (q / n) (q % n) (get_or list 385 0) list
 
 -- place w of the other list has what place m of the list has
 unfoldable pub is_same : List ℕ → List ℕ → ℕ → ℕ → Bool

@@ -4,3 +4,5 @@ pub mod Skips
 pub mod Rows
 pub mod Chains
 pub mod Standing
+pub mod Held
+pub mod Props

@@ -1,6 +1,6 @@
 // A number that alike positions share, from the hashes of their midpoints: any hash would serve.
-ghost use Rattle.std.specs.Prelude.{◌≡◌, List, ℕ, ◌+◌, ◌*◌, ◌/◌, ◌%◌, ◌<◌, ◌≤◌, max, length, get_or};
-ghost use Rattle.twins.specs.Chains.{mix_of, hash_of, Small, Raised, Mosts, most_of};
+ghost use Rattle.std.specs.Prelude.{◌≡◌, List, ℕ, ◌+◌, ◌*◌, ◌/◌, ◌%◌, ◌<◌, length};
+ghost use Rattle.twins.specs.Chains.{mix_of, Raised, Mosts, most_of};
 ghost use Rattle.twins.specs.Halves.{Midpoints};
 
 // The largest hashes so far, by four turns.
@@ -28,59 +28,41 @@ fn turn(y: u64, k: u64) -> u64
     (y + k) % 4294967296
 }
 
-// The larger of two numbers.
-fn larger(a: u64, b: u64) -> u64
-    requires { (a < 4294967296) × (b < 4294967296) }
-    ensures { (result ≡ max a b) × (result < 4294967296) }
-{
-    if a < b {
-        return b;
+impl Most {
+    // The largest hashes, with those of one midpoint more.
+    fn raised(self, x: u64) -> Most
+        ensures { Raised x self.none self.quarter self.half self.most result.none result.quarter result.half result.most }
+    {
+        let y = mix(x);
+        Most {
+            none: self.none.max(turn(y, 0)),
+            quarter: self.quarter.max(turn(y, 1073741824)),
+            half: self.half.max(turn(y, 2147483648)),
+            most: self.most.max(turn(y, 3221225472)),
+        }
     }
-    a
-}
 
-// The largest hashes, with those of one midpoint more.
-fn raise(past: Most, x: u64) -> Most
-    requires { Small past.none past.quarter past.half past.most }
-    ensures { (Raised x past.none past.quarter past.half past.most result.none result.quarter result.half result.most) × (Small result.none result.quarter result.half result.most) }
-{
-    let y = mix(x);
-    let none = larger(past.none, turn(y, 0));
-    let quarter = larger(past.quarter, turn(y, 1073741824));
-    let half = larger(past.half, turn(y, 2147483648));
-    let most = larger(past.most, turn(y, 3221225472));
-    Most {
-        none,
-        quarter,
-        half,
-        most,
+    // The largest hashes of a list.
+    fn of(list: &[u64]) -> Most
+        ensures { Mosts list.now (length list.now) result.none result.quarter result.half result.most }
+    {
+        let mut most = Most {
+            none: 0,
+            quarter: 0,
+            half: 0,
+            most: 0,
+        };
+        for x in list {
+            most = most.raised(*x);
+        }
+        most
     }
-}
-
-// The largest hashes of the first k of a list.
-fn most_of(list: &[u64], k: usize) -> Most
-    requires { k ≤ length list.now }
-    ensures { (Mosts list.now k result.none result.quarter result.half result.most) × (Small result.none result.quarter result.half result.most) }
-{
-    let mut most = Most {
-        none: 0,
-        quarter: 0,
-        half: 0,
-        most: 0,
-    };
-    let mut j = 0;
-    while j < k {
-        most = raise(most, list[j]);
-        j += 1;
-    }
-    most
 }
 
 // The largest hashes of a list of midpoints, together.
-pub fn most_at(list: &[u64], k: usize) -> u64
-    requires { k ≤ length list.now }
-    ensures { ((n i p : ℕ) → (levels : List ℕ) → Midpoints n i levels (p / n) (p % n) k list.now → result ≡ most_of n i levels p) × (result < 17179869184) }
+pub fn most_at(list: &[u64]) -> u64
+    ensures { ((n i p : ℕ) → (levels : List ℕ) → Midpoints n i levels (p / n) (p % n) (length list.now) list.now → result ≡ most_of n i levels p) × (result < 17179869184) }
 {
-    let m = most_of(list, k);
+    let m = Most::of(list);
     m.none + m.quarter + m.half + m.most
 }

@@ -5,7 +5,11 @@
 pub mod agree;
 pub mod halves;
 pub mod hashes;
+pub mod kept;
+pub mod level;
 pub mod marks;
 pub mod near;
+pub mod over;
 pub mod skips;
 pub mod splits;
+pub mod steps;

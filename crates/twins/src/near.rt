@@ -2,64 +2,45 @@
 ghost use Rattle.std.specs.Prelude.{◌≡◌, not, ℕ, ◌+◌, ◌*◌, ◌-◌, ◌<◌, ◌≤◌, eqb, length, get_or};
 ghost use Rattle.std.specs.Int.Bits.{bit_or};
 ghost use Rattle.rules.specs.Graph.{connected};
-ghost use Rattle.rules.specs.Levels.{number_at, level_of};
+ghost use Rattle.rules.specs.Levels.{number_at};
 ghost use Rattle.rules.specs.Writing.{fill};
 ghost use Rattle.twins.specs.Marks.{marked_graph, one_if};
-ghost use Rattle.twins.specs.Standing.{Pair, Marks, Stands, Ready, near_byte};
+ghost use Rattle.twins.specs.Standing.{Ready, near_byte};
 ghost use Rattle.twins.specs.Rows.{Empty, Reached, RowOf};
 
-use super::agree::number_at;
-use super::marks::next_to;
+use super::level::Level;
+use super::steps::Steps;
 
-// 1 where v is u or next to it, else 0.
-fn step_bit(n: usize, area: &[u8], v: usize, u: usize) -> u32
-    requires { (Marks n area.now) × (Pair n v u) }
-    ensures { result ≡ one_if (connected (marked_graph n area.now) 1 v u) }
+// The items within one step of v: 1 for each, and 0 for the others.
+fn first_row(steps: Steps, v: usize, row: &mut [u32])
+    requires { (v < steps.n) × (steps.n ≤ length row.old) }
+    ensures { row.new ≡ fill row.old 0 steps.entry.n (λ u. one_if (connected (marked_graph steps.entry.n steps.entry.area.now) 1 v u)) }
 {
-    if next_to(n, area, v, u) {
-        return 1;
-    }
-    0
-}
-
-// The items within one step of v.
-fn first_row(n: usize, area: &[u8], v: usize, row: &mut [u32])
-    requires { (Marks n area.now) × (v < n) × (n ≤ length row.old) }
-    ensures { row.new ≡ fill row.old 0 n (λ u. one_if (connected (marked_graph n area.now) 1 v u)) }
-{
-    let mut u = 0;
-    while u < n {
-        row[u] = step_bit(n, area, v, u);
-        u += 1;
+    for u in 0..steps.n {
+        row[u] = u32::from(steps.next_to(v, u));
     }
 }
 
 // Row m of level 1 is added to the row: a number stays 0 exactly where both are.
-fn add_row(n: usize, levels: &[u32], m: usize, row: &mut [u32])
-    requires { (Stands n levels.now 1) × (m < n) × (n ≤ length row.old) }
-    ensures { row.new ≡ fill row.old 0 n (λ u. bit_or (get_or row.old u 0) (number_at n (level_of n levels.now 1) m u)) }
+fn add_row(first: Level, m: usize, row: &mut [u32])
+    requires { (m < first.n) × (first.n ≤ length row.old) }
+    ensures { row.new ≡ fill row.old 0 first.entry.n (λ u. bit_or (get_or row.old u 0) (number_at first.entry.n first.entry.numbers.now m u)) }
 {
-    let start = m * n;
-    let mut u = 0;
-    while u < n {
-        row[u] = row[u] | levels[start + u];
-        u += 1;
+    let start = m * first.n;
+    for u in 0..first.n {
+        row[u] |= first.numbers[start + u];
     }
 }
 
 // The items that a step leads to from those that a level connects with v.
-fn gather_row(n: usize, levels: &[u32], level: usize, v: usize, row: &mut [u32])
-    requires { (Stands n levels.now level) × (v < n) × (Empty n row.old) }
-    ensures { Reached n (level_of n levels.now level) (level_of n levels.now 1) v n row.new }
+fn gather_row(level: Level, first: Level, v: usize, row: &mut [u32])
+    requires { (first.n ≡ level.n) × (v < level.n) × (Empty level.n row.old) }
+    ensures { Reached level.entry.n level.entry.numbers.now first.entry.numbers.now v level.entry.n row.new }
 {
-    let mut m = 0;
-    while m < n {
-        if number_at(n, levels, level, v, m) == 0 {
-            m += 1;
-            continue;
+    for m in 0..level.n {
+        if level.number_at(v, m) != 0 {
+            add_row(first, m, row);
         }
-        add_row(n, levels, m, row);
-        m += 1;
     }
 }
 
@@ -69,31 +50,21 @@ fn fill_row(n: usize, i: usize, levels: &[u32], area: &[u8], v: usize, row: &mut
     ensures { RowOf n i area.now v row.new }
 {
     if i == 1 {
-        first_row(n, area, v, row);
+        first_row(Steps { n, area }, v, row);
         return;
     }
-    gather_row(n, levels, i - 1, v, row);
+    let level = Level::of(n, levels, i - 1);
+    let first = Level::of(n, levels, 1);
+    gather_row(level, first, v, row);
 }
 
-// 0 for 0, else 1.
-fn sign(x: u32) -> u8
-    ensures { result ≡ one_if (not (eqb x 0)) }
-{
-    if x == 0 {
-        return 0;
-    }
-    1
-}
-
-// The signs of a row, as bytes from `at` on.
+// The signs of a row, as bytes from `at` on: 0 for 0, and 1 for all else.
 fn put_row(n: usize, row: &[u32], area: &mut [u8], at: usize)
     requires { (n ≤ length row.now) × (at + n ≤ length area.old) }
     ensures { area.new ≡ fill area.old at n (λ u. one_if (not (eqb (get_or row.now u 0) 0))) }
 {
-    let mut u = 0;
-    while u < n {
-        area[at + u] = sign(row[u]);
-        u += 1;
+    for u in 0..n {
+        area[at + u] = u8::from(row[u] != 0);
     }
 }
 
@@ -112,9 +83,7 @@ pub fn mark_near(n: usize, i: usize, levels: &[u32], area: &mut [u8])
     requires { Ready n i levels.now area.old }
     ensures { area.new ≡ fill area.old (n * n) (n * n) (near_byte n i area.old) }
 {
-    let mut v = 0;
-    while v < n {
+    for v in 0..n {
         near_row(n, i, levels, area, v);
-        v += 1;
     }
 }

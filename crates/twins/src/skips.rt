@@ -1,45 +1,33 @@
 // The items that the level below connects with each item, so that a search over midpoints passes over the others.
 ghost use Rattle.std.specs.Prelude.{◌≡◌, ℕ, ◌+◌, ◌*◌, ◌<◌, ◌≤◌, length, get_or};
-ghost use Rattle.rules.specs.Levels.{level_of};
-ghost use Rattle.twins.specs.Standing.{Pair, Stands, Ready};
+ghost use Rattle.twins.specs.Standing.{Pair, Ready};
 ghost use Rattle.twins.specs.Skips.{Skips, Laid, SkipRow, Aside};
 
-use super::agree::number_at;
+use super::level::Level;
 use super::splits::splits;
 
-// The first connected item from m on, where `next` is the first behind m, and x is the number of m.
-fn nearer(x: u32, m: usize, next: usize) -> usize
-    ensures { (x ≡ 0 → result ≡ next) × ((x ≡ 0 → ⊥) → result ≡ m) }
-{
-    if x == 0 {
-        return next;
-    }
-    m
-}
-
 // For each item the first from it on that the level connects with v, or n.
-fn skip_row(n: usize, levels: &[u32], level: usize, area: &mut [u8], v: usize)
-    requires { (n ≤ 128) × (Stands n levels.now level) × (9 * (n * n) ≤ length area.old) × (v < n) }
-    ensures { SkipRow n (level_of n levels.now level) v area.old area.new }
+fn skip_row(level: Level, area: &mut [u8], v: usize)
+    requires { (level.n ≤ 128) × (9 * (level.n * level.n) ≤ length area.old) × (v < level.n) }
+    ensures { SkipRow level.entry.n level.entry.numbers.now v area.old area.new }
 {
+    let n = level.n;
     let mut next = n;
-    let mut m = n;
-    while 0 < m {
-        m -= 1;
-        next = nearer(number_at(n, levels, level, v, m), m, next);
+    for m in (0..n).rev() {
+        if level.number_at(v, m) != 0 {
+            next = m;
+        }
         area[8 * (n * n) + (v * n + m)] = next as u8;
     }
 }
 
 // The same for every item v.
-fn skip_rows(n: usize, levels: &[u32], level: usize, area: &mut [u8])
-    requires { (n ≤ 128) × (Stands n levels.now level) × (9 * (n * n) ≤ length area.old) }
-    ensures { (Skips n (level_of n levels.now level) area.new) × (Aside n area.old area.new) }
+fn skip_rows(level: Level, area: &mut [u8])
+    requires { (level.n ≤ 128) × (9 * (level.n * level.n) ≤ length area.old) }
+    ensures { (Skips level.entry.n level.entry.numbers.now area.new) × (Aside level.entry.n area.old area.new) }
 {
-    let mut v = 0;
-    while v < n {
-        skip_row(n, levels, level, area, v);
-        v += 1;
+    for v in 0..level.n {
+        skip_row(level, area, v);
     }
 }
 
@@ -60,5 +48,5 @@ pub fn lay_out(n: usize, i: usize, levels: &[u32], area: &mut [u8])
     if splits(i) == 0 {
         return;
     }
-    skip_rows(n, levels, i - 1, area);
+    skip_rows(Level::of(n, levels, i - 1), area);
 }

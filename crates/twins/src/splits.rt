@@ -12,6 +12,8 @@ pub fn splits(i: usize) -> usize
     0
 }
 
+// The levels of the two halves are two functions: a rule may look for them in different levels.
+
 // The level of the first half in split c of level i.
 pub fn first_level(i: usize, c: usize) -> usize
     requires { c < rule.many i }

@@ -1,11 +1,13 @@
 -- By the two tests.
-use Rattle.machine.specs.Standing.{stage_of}
-use Rattle.answer.proofs.Laws.{no_more, some_more}
+use Rattle.std.proofs.Common.{◌≡◌, ap, not, arith}
+use borrow.Author.Tests.{ne_eqb}
+use Rattle.answer.specs.Reads.{goes_on}
 use Rattle.answer.proofs.goes_on.Goals as goal
 
-pub returns-then-got-eq0 : goal.returns-then-got-eq0
-returns-then-got-eq0 c = λ edges levels entries. no_more c.args.got (stage_of c.args.s.progress edges levels entries) c.if-got-eq0.true
+pub returns-then-got-gt0 : goal.returns-then-got-gt0
+unfolding goes_on
+returns-then-got-gt0 c = rw (ne_eqb c.args.got 0 (λ e. omega (arith, e, c.if-got-gt0.true))) (ap not c.is_stopped.ensures)
 
-pub returns : goal.returns
-returns c =
-    λ edges levels entries. some_more c.args.got (stage_of c.args.s.progress edges levels entries) c.is_stopped.result c.if-got-eq0.false (c.is_stopped.ensures edges levels entries)
+pub returns-else-got-gt0 : goal.returns-else-got-gt0
+unfolding goes_on
+returns-else-got-gt0 c = let none : c.args.got ≡ 0 = omega (arith, c.if-got-gt0.false) in rw none

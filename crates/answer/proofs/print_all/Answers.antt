@@ -1,30 +1,23 @@
 -- A text more is printed, and the rest is what the machine goes on with.
-use Rattle.std.proofs.Common.{◌∙◌, arith}
-use Rattle.machine.specs.Standing.{machine_of}
-use Rattle.lines.proofs.Laws.Feeding.{lent_kept}
-use Rattle.answer.proofs.Streams.{printed_none, printed_more, printed_machine, printed_all}
+use Rattle.lines.proofs.Laws.Feeding.{step_printed}
+use Rattle.answer.proofs.Streams.{appends_nothing, printed_none, printed_more, printed_machine, printed_all}
+use Rattle.answer.proofs.print_all.Goals.{then-many-gt0+in_ok-write_all, else-many-gt0}
 use Rattle.answer.proofs.print_all.Goals as goal
 
-pub loop-at-init : goal.loop-at-init
-loop-at-init g c = record { within = omega arith; stands = c.requires.0; part_lent = c.requires.1; lent = c.requires.2; printed = printed_none _ _ }
+pub loop-byte-init : goal.loop-byte-init
+loop-byte-init g c = printed_none _ _
 
-pub loop-at-preserved : goal.loop-at-preserved
-loop-at-preserved g c =
-    let a = c.advance-advanced in
-    let v = c.loop-at.invariant in
-    record {
-      within = a.ensures.within;
-      stands = a.ensures.stands;
-      part_lent = a.auto.part ∙ v.part_lent;
-      lent = lent_kept a.auto.edges a.auto.levels a.auto.entries a.auto.out v.lent;
-      printed = printed_more _ _ _ _ _ _ _ v.printed a.ensures.fed c.in_ok-write_all.ensures.bytes;
-    }
+pub loop-byte-preserved : goal.loop-byte-preserved
+loop-byte-preserved g c =
+    printed_more _ _ _ _ _ _ _ c.loop-byte.invariant
+    (step_printed _ _ _ _ _ _ c.loop-byte-test.true c.take_byte-many.ensures)
+    (elim c.if-many-gt0.branch [
+      | then-many-gt0+in_ok-write_all w ↦ rw w.writer-is w.in_ok-write_all.ensures.bytes
+      | else-many-gt0 w ↦ rw w.writer-is (appends_nothing _ _ _ w.if-many-gt0.false)
+    ])
 
 pub returns-clause-machine : goal.returns-clause-machine
-returns-clause-machine g c =
-    let l = c.loop-at in
-    (l.invariant.stands, printed_machine _ _ _ (machine_of l.t l.part l.edges l.levels l.entries) c.args.input.now l.at c.loop-at-test.false l.invariant.printed)
+returns-clause-machine g c = printed_machine _ _ _ _ _ _ c.loop-byte-test.false c.loop-byte.invariant
 
 pub returns-clause-written : goal.returns-clause-written
-returns-clause-written g c =
-    let l = c.loop-at in printed_all _ _ _ (machine_of l.t l.part l.edges l.levels l.entries) c.args.input.now l.at c.loop-at-test.false l.invariant.printed
+returns-clause-written g c = printed_all _ _ _ _ _ _ c.loop-byte-test.false c.loop-byte.invariant

@@ -1,33 +1,26 @@
--- One read more.
-use Rattle.std.proofs.Common.{◌∙◌, refl, arith}
-use Rattle.lines.proofs.Laws.Feeding.{lent_kept}
-use Rattle.answer.proofs.Laws.{behind_start, behind_more}
-use Rattle.answer.proofs.Streams.{moves_start, moves_more}
+-- One read more, and the end of the reads.
+use Rattle.std.proofs.Common.{refl, sym, ◌∙◌, arith}
+use Rattle.answer.proofs.Streams.{goes_true, goes_false, going_start, going_more, moves_over, moves_long}
 use Rattle.answer.proofs.read_all.Goals as goal
 
-pub loop-turns-init : goal.loop-turns-init
-loop-turns-init g c =
-    let a = c.args in
-    let s = c.start-s in
+pub reads-init : goal.reads-init
+reads-init g c = record { going = going_start _ _ _; buffer_lent = refl }
+
+pub reads-preserved : goal.reads-preserved
+reads-preserved g c =
+    let v = c.reads.invariant in
+    let t = c.in_ok-got.ensures in
     record {
-      part_lent = c.requires.0;
-      lent = c.requires.1;
-      stands = s.ensures.0;
-      behind = behind_start _ (s.ensures.1 a.part.now a.edges.now a.levels.now a.entries.now);
-      moved = moves_start _ _ _ _ (s.ensures.1 a.part.now a.edges.now a.levels.now a.entries.now) (omega arith);
-      buffer_lent = refl;
+      going = going_more _ _ _ _ _ _ _ _ _ _ _ _ v.going t.machine t.read t.written (goes_true _ _ (sym c.goes_on.ensures ∙ c.if-not-goes_on.false));
+      buffer_lent = c.read_once.auto.buffer ∙ v.buffer_lent;
     }
 
-pub loop-turns-preserved : goal.loop-turns-preserved
-loop-turns-preserved g c =
-    let v = c.loop-turns.invariant in
-    let r = c.read_once.auto in
-    let t = c.in_ok-t.ensures in
-    record {
-      part_lent = r.part ∙ v.part_lent;
-      lent = lent_kept r.edges r.levels r.entries r.out v.lent;
-      stands = t.machine.0;
-      behind = behind_more _ _ c.in_ok-t.t.got c.in_ok-t.t.more c.read_once.new.buffer v.behind t.machine.1;
-      moved = moves_more _ _ _ _ _ _ _ _ c.in_ok-t.t.got c.in_ok-t.t.more c.read_once.new.buffer _ _ v.moved t.machine.1 t.read t.end t.written (omega (arith, r.buffer, v.buffer_lent)) c.loop-turns-test.true c.turns_left-turns.ensures.value;
-      buffer_lent = r.buffer ∙ v.buffer_lent;
-    }
+pub returns-then-not-goes_on : goal.returns-then-not-goes_on
+returns-then-not-goes_on g c =
+    let v = c.reads.invariant in
+    let t = c.in_ok-got.ensures in
+    moves_over _ _ _ _ _ _ _ _ _ _ _ _ v.going t.machine t.read t.written
+    (λ on. t.end (goes_false _ _ (sym c.goes_on.ensures ∙ c.if-not-goes_on.true) on) (omega (arith, c.read_once.auto.buffer, v.buffer_lent)))
+
+pub returns-after-reads : goal.returns-after-reads
+returns-after-reads g c = moves_long _ _ _ _ _ _ _ (omega arith) c.reads.invariant.going

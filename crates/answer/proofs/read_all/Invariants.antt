@@ -1,20 +1,11 @@
--- The machine is behind all reads so far, and the turns grow fewer.
+-- The machine is behind all reads so far, and each handed over a byte.
 use Rattle.std.proofs.Common.{◌≡◌, length}
-use Rattle.machine.specs.Standing.{machine_of, Stands}
-use Rattle.lines.specs.Lent.{Rooms}
-use Rattle.answer.specs.Reads.{Behind}
-use Rattle.answer.specs.Streams.{Moves}
+use Rattle.machine.specs.Standing.{machine_of}
+use Rattle.answer.proofs.Streams.{Going}
 use Rattle.answer.proofs.read_all.Given as goal
 
-abbrev pub invariant-loop-turns : goal.invariant-loop-turns
-invariant-loop-turns g l = record {
-  part_lent : length l.part ≡ 512;
-  lent : Rooms l.edges l.levels l.entries l.out;
-  stands : Stands l.s;
-  behind : Behind (machine_of l.s l.part l.edges l.levels l.entries);
-  moved : Moves (g.R.Read.remaining l.fn.reader) (g.R.Read.remaining l.reader) (g.W.Write.contents l.fn.writer) (g.W.Write.contents l.writer) (machine_of l.s l.part l.edges l.levels l.entries) l.turns;
+abbrev pub invariant-reads : goal.invariant-reads
+invariant-reads g l = record {
+  going : Going (g.R.Read.remaining l.fn.reader) (g.R.Read.remaining l.reader) (g.W.Write.contents l.fn.writer) (g.W.Write.contents l.writer) (machine_of l.fn.run) (machine_of l.run) l.counter;
   buffer_lent : length l.buffer ≡ 4096;
 }
-
-abbrev pub decreases-loop-turns : goal.decreases-loop-turns
-decreases-loop-turns g l = l.turns

@@ -1,4 +1,5 @@
 -- What is known of an answer's call that is refused nothing before the work, and how it ends.
+use Rattle.std.proofs.Common.{Err, Result}
 use Prim.Native.Nat.{ℕ, ◌*◌, ◌/◌, ◌%◌, ◌≤◌, ◌<◌}
 use mathlib.Core.Path.{◌≡◌, refl, sym, ap, ◌∙◌}
 use mathlib.Core.Logic.{inr}
@@ -6,11 +7,9 @@ use mathlib.Core.List.{List, map}
 use mathlib.Core.Bool.{Bool, true, false, false≢true, ◌&&◌}
 use native.Mathlib.Omega.{arith}
 use lib.ListN.{length, get_or}
-use Rattle.rules.specs.declared.Answered.{Answered}
-use Rattle.rules.specs.declared.Answered.TheVariants.{Refused}
 use Rattle.rules.specs.declared.Refusal.{Refusal}
 use Rattle.rules.specs.Finite.{list_below}
-use Rattle.rules.specs.Graph.{graph_of}
+use Rattle.rules.specs.Graph.{graph_of, leads}
 use Rattle.rules.specs.Query.{meets_by, answer_by, answer_of}
 use Rattle.rules.specs.Reading.{read_tokens}
 use Rattle.rules.specs.Stored.{stored_step, stored_answer, leader, class_answer}
@@ -24,7 +23,8 @@ use Rattle.rules.proofs.Laws.Finite.{list_same}
 use Rattle.rules.proofs.Laws.Places.{row_lt, column_lt, square_le}
 use Rattle.area.specs.Packed.{pair_in, Slot}
 use Rattle.area.proofs.Laws.Sets.{list_holds}
-use Rattle.query.specs.Sets.{source_step, Source}
+use Rattle.area.specs.Written.{EdgesWithin}
+use Rattle.query.specs.Sets.{Source}
 use Rattle.query.specs.Evaluate.{Evaluable, Evaluated}
 use Rattle.area.proofs.Laws.Rows.{slot_short}
 use Rattle.rules.specs.Calls.{ended}
@@ -39,15 +39,13 @@ pub record Ready (items labels : ℕ) (tokens area : List ℕ) : Type 0 where
   pub wide : 9 * (items * items) ≤ length area
 
 -- the edge table in use, or a stored table
-pub from_edges_lem : {n : ℕ} {edges : List ℕ} (labels : ℕ) (table : List ℕ) → n ≤ 128 → EdgesIn n labels edges → Source false n edges table
-from_edges_lem labels table h e =
-    record { few = h; within = λ _. record { source = e.source; target = e.target }; fits = λ q. absurd (false≢true q) }
+pub from_edges_lem : {n : ℕ} {edges : List ℕ} (labels : ℕ) → n ≤ 128 → EdgesIn n labels edges → Source (EdgesWithin n edges) n
+from_edges_lem labels h e = record { few = h; fits = record { source = e.source; target = e.target } }
 
-pub from_table : {n : ℕ} {table : List ℕ} (edges : List ℕ) → n ≤ 128 → n * n ≤ length table → Source true n edges table
-from_table edges h l = record { few = h; within = λ q. absurd (false≢true (sym q)); fits = λ _. l }
+pub from_table : {n : ℕ} (table : List ℕ) → n ≤ 128 → n * n ≤ length table → Source (n * n ≤ length table) n
+from_table table h l = record { few = h; fits = l }
 
-pub evaluable : {b : Bool} {n labels : ℕ} {edges table tokens area : List ℕ} → Ready n labels tokens area → Source b n edges table
-    → Evaluable b n labels edges table area tokens
+pub evaluable : {has : Type 0} {n labels : ℕ} {tokens area : List ℕ} → Ready n labels tokens area → Source has n → Evaluable has n labels area tokens
 evaluable r s = record { source = s; room = r.wide; labels_few = r.fit.labels_fit; read = r.read }
 
 -- slot 0 stands in the area
@@ -74,18 +72,18 @@ direct_passed c e =
     }
 
 module _ (c : DirectCall) where
-  pub direct_refused : (f : Refusal) → direct_refusal c ≡ refuse f → Ends (direct c) (ended (Refused f) c.answers c.area)
+  pub direct_refused : (f : Refusal) → direct_refusal c ≡ refuse f → Ends (direct c) (ended (Err f) c.answers c.area)
   unfolding direct
   direct_refused f e = ends_refused c.items (direct_list c) c.answers c.area (direct_refusal c) e
 
-  module _ (t x w : List ℕ)
-      (e : Evaluated c.items (meets_by c.items (source_step false c.items c.labels c.edges t x) (query_of (read_tokens c.labels c.tokens))) c.area w) where
+  module _ (w : List ℕ)
+      (e : Evaluated c.items (meets_by c.items (leads (graph_of c.items c.labels c.edges)) (query_of (read_tokens c.labels c.tokens))) c.area w) where
     direct_pairs : list_below (c.items * c.items) (pair_in c.items w 0) ≡ direct_list c
-    unfolding direct_list answer_of answer_by source_step graph_of
+    unfolding direct_list answer_of answer_by graph_of
     direct_pairs =
-        list_holds c.items w 0 (meets_by c.items (source_step false c.items c.labels c.edges t x) (query_of (read_tokens c.labels c.tokens))) e.holds
+        list_holds c.items w 0 (meets_by c.items (leads (graph_of c.items c.labels c.edges)) (query_of (read_tokens c.labels c.tokens))) e.holds
 
-    pub direct_told : (z written : List ℕ) (r : Answered) → direct_refusal c ≡ good → Told (list_below (c.items * c.items) (pair_in c.items w 0)) c.answers r written
+    pub direct_told : (z written : List ℕ) (r : Result ℕ Refusal) → direct_refusal c ≡ good → Told (list_below (c.items * c.items) (pair_in c.items w 0)) c.answers r written
         → z ≡ fill w 0 (9 * (c.items * c.items)) (λ _. 0) → Ends (direct c) (ended r written z)
     unfolding direct
     direct_told z written r g told cleared =
@@ -111,18 +109,18 @@ stored_passed c e =
     }
 
 module _ (c : StoredCall) where
-  pub stored_refused : (f : Refusal) → stored_refusal c ≡ refuse f → Ends (stored c) (ended (Refused f) c.answers c.area)
+  pub stored_refused : (f : Refusal) → stored_refusal c ≡ refuse f → Ends (stored c) (ended (Err f) c.answers c.area)
   unfolding stored
   stored_refused f e = ends_refused c.items (stored_list c) c.answers c.area (stored_refusal c) e
 
-  module _ (edges w : List ℕ)
-      (e : Evaluated c.items (meets_by c.items (source_step true c.items c.labels edges c.table c.entries) (query_of (read_tokens c.labels c.tokens))) c.area w) where
+  module _ (w : List ℕ)
+      (e : Evaluated c.items (meets_by c.items (stored_step c.items c.table c.entries) (query_of (read_tokens c.labels c.tokens))) c.area w) where
     stored_pairs : list_below (c.items * c.items) (pair_in c.items w 0) ≡ stored_list c
-    unfolding stored_list stored_answer answer_by source_step
+    unfolding stored_list stored_answer answer_by
     stored_pairs =
-        list_holds c.items w 0 (meets_by c.items (source_step true c.items c.labels edges c.table c.entries) (query_of (read_tokens c.labels c.tokens))) e.holds
+        list_holds c.items w 0 (meets_by c.items (stored_step c.items c.table c.entries) (query_of (read_tokens c.labels c.tokens))) e.holds
 
-    pub stored_told : (z written : List ℕ) (r : Answered) → stored_refusal c ≡ good → Told (list_below (c.items * c.items) (pair_in c.items w 0)) c.answers r written
+    pub stored_told : (z written : List ℕ) (r : Result ℕ Refusal) → stored_refusal c ≡ good → Told (list_below (c.items * c.items) (pair_in c.items w 0)) c.answers r written
         → z ≡ fill w 0 (9 * (c.items * c.items)) (λ _. 0) → Ends (stored c) (ended r written z)
     unfolding stored
     stored_told z written r g told cleared =
@@ -164,15 +162,15 @@ module _ {n : ℕ} {g : ℕ → ℕ → Bool} {area w : List ℕ} (t : List ℕ)
   led_size r l = l.only.size ∙ e.size
 
 module _ (c : ClassCall) where
-  pub class_refused : (f : Refusal) → class_refusal c ≡ refuse f → Ends (class c) (ended (Refused f) c.answers c.area)
+  pub class_refused : (f : Refusal) → class_refusal c ≡ refuse f → Ends (class c) (ended (Err f) c.answers c.area)
   unfolding class
   class_refused f e = ends_refused c.items (class_list c) c.answers c.area (class_refusal c) e
 
-  module _ (edges w : List ℕ)
-      (e : Evaluated c.items (meets_by c.items (source_step true c.items c.labels edges c.table c.entries) (query_of (read_tokens c.labels c.tokens))) c.area w) where
+  module _ (w : List ℕ)
+      (e : Evaluated c.items (meets_by c.items (stored_step c.items c.table c.entries) (query_of (read_tokens c.labels c.tokens))) c.area w) where
     met : (p : ℕ) → p < c.items * c.items
         → pair_in c.items w 0 p ≡ meets_by c.items (stored_step c.items c.table c.entries) (query_of (read_tokens c.labels c.tokens)) (p / c.items) (p % c.items)
-    unfolding pair_in source_step
+    unfolding pair_in
     met p h = e.holds.pairs (p / c.items) (p % c.items) (row_lt c.items p h) (column_lt c.items p h)
 
     class_numbers : (x : List ℕ) → Led c.items c.table w x → classes_in c.items x c.table ≡ class_list c
@@ -184,7 +182,7 @@ module _ (c : ClassCall) where
         (list_same (n * n) (pair_in n x 0) (λ p. leader (n * n) c.table p && meets_by n (stored_step n c.table c.entries) q (p / n) (p % n))
         (λ p h. l.pairs p h ∙ ap (λ (b : Bool). leader (n * n) c.table p && b) (met p h)))
 
-    pub class_told : (x z written : List ℕ) (r : Answered) → class_refusal c ≡ good → Led c.items c.table w x → Told (classes_in c.items x c.table) c.answers r written
+    pub class_told : (x z written : List ℕ) (r : Result ℕ Refusal) → class_refusal c ≡ good → Led c.items c.table w x → Told (classes_in c.items x c.table) c.answers r written
         → z ≡ fill x 0 (9 * (c.items * c.items)) (λ _. 0) → Ends (class c) (ended r written z)
     unfolding class
     class_told x z written r g l told cleared =

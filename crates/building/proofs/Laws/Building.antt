@@ -1,4 +1,7 @@
 -- Build's steps: what each asks, from what stands before it, and that together they leave what build defines.
+use Rattle.std.proofs.Common.{Err, Ok, Result}
+use Rattle.rules.specs.declared.Counts.{Counts}
+use Rattle.rules.specs.Outcomes.{counted}
 use Prim.Native.Nat.{ℕ, suc, ◌+◌, ◌*◌, ◌/◌, ◌≤◌, ◌<◌}
 use mathlib.Core.Path.{◌≡◌, refl, sym, ap, ◌∙◌, subst}
 use mathlib.Core.List.{List, ◌++◌}
@@ -8,8 +11,6 @@ use borrow.Author.Tests.{le-leb, lt-leb}
 use lib.ListN.{length, get_or, drop, length-append}
 use Rattle.rules.specs.declared.Refusal.{Refusal}
 use Rattle.rules.specs.declared.Refusal.TheVariants.{EntryRoom}
-use Rattle.rules.specs.declared.Built.{Built}
-use Rattle.rules.specs.declared.Built.TheVariants.{Tables, Refused}
 use Rattle.rules.specs.Graph.{Graph, graph_of}
 use Rattle.rules.specs.Rule.{rule}
 use Rattle.rules.specs.Levels.{max_of, level_of, built_levels, built_level}
@@ -96,13 +97,13 @@ module _ (g : Graph) (k : ℕ) (t entries entries' : List ℕ) (many : ℕ) (lis
 
   module _ (n : ℕ) (starts order area starts' order' area' : List ℕ) (fs : starts' ≡ front (starts_of t) starts) (fo : order' ≡ front (order_of t) order)
       (fa : area' ≡ zeroed n area) where
-    pub lists_short : length entries / 2 < many → ListsWritten n g k t starts order entries area (Refused (EntryRoom many)) starts' order' entries' area'
+    pub lists_short : length entries / 2 < many → ListsWritten n g k t starts order entries area (Err (EntryRoom many)) starts' order' entries' area'
     lists_short h =
         let e = lt-leb (length (entries_of g k t) / 2) (length entries / 2) (omega (arith, h, many_is)) in
         record { result = rw (e, many_is) refl; starts_are = fs; order_are = fo; entries_are = rw e (listed.none h); area_is = fa }
 
     pub lists_fit : (classes last : ℕ) → classes ≡ max_of t → last ≡ length (order_of t) → many ≤ length entries / 2
-        → ListsWritten n g k t starts order entries area (Tables classes last many) starts' order' entries' area'
+        → ListsWritten n g k t starts order entries area (Ok (counted classes last many)) starts' order' entries' area'
     unfolding front
     lists_fit classes last fc fl h =
         let e = le-leb (length (entries_of g k t) / 2) (length entries / 2) (omega (arith, h, many_is)) in
@@ -197,7 +198,7 @@ module _ (c : BuildCall) (ok : build_refusal c ≡ good) where
         order_room = links.order;
       })
 
-  pub tables_built : (table levels' area₁ starts' order' entries' area' : List ℕ) (r : Built) → table ≡ top
+  pub tables_built : (table levels' area₁ starts' order' entries' area' : List ℕ) (r : Result Counts Refusal) → table ≡ top
       → levels' ≡ front (built_levels rule g c.k) c.levels → Past n c.area area₁
       → ListsWritten n g c.k table c.starts c.order c.entries area₁ r starts' order' entries' area'
       → EndsAs (build_tables c (index_for c)) (build_end r levels' starts' order' entries' area')
@@ -228,12 +229,12 @@ module _ (c : BuildCall) where
       }
 
   pub builds_refused : (r : Refusal) → build_refusal c ≡ refuse r → (s : Refusal) → s ≡ r
-      → Builds c (build_end (Refused s) c.levels c.starts c.order c.entries c.area)
+      → Builds c (build_end (Err s) c.levels c.starts c.order c.entries c.area)
   unfolding build build_after build_nothing
   builds_refused r refused s same =
       let nothing : build_nothing c r ≡ build c = rw refused refl in
       record {
-        result = ap Refused same ∙ ap (λ (b : BuildEnd). b.result) nothing;
+        result = ap Err same ∙ ap (λ (b : BuildEnd). b.result) nothing;
         levels = ap (λ (b : BuildEnd). b.levels) nothing;
         starts = ap (λ (b : BuildEnd). b.starts) nothing;
         order = ap (λ (b : BuildEnd). b.order) nothing;

@@ -1,4 +1,5 @@
 -- Check's steps: what each asks, from what stands before it, and that together they give what check defines.
+use Rattle.std.proofs.Common.{Err, Ok, Result}
 use Prim.Native.Nat.{ℕ, ◌+◌, ◌*◌, ◌≤◌, ◌<◌}
 use mathlib.Core.Path.{◌≡◌, refl, sym, ap, ◌∙◌, subst}
 use mathlib.Core.List.{List}
@@ -7,8 +8,6 @@ use native.Mathlib.Omega.{arith}
 use lib.Dec.{eqb}
 use lib.ListN.{length}
 use Rattle.rules.specs.declared.Refusal.{Refusal}
-use Rattle.rules.specs.declared.Checked.{Checked}
-use Rattle.rules.specs.declared.Checked.TheVariants.{Accepted, Refused}
 use Rattle.rules.specs.Graph.{Graph, graph_of}
 use Rattle.rules.specs.Rule.{rule}
 use Rattle.rules.specs.Levels.{max_of, level_of}
@@ -56,27 +55,27 @@ module _ (xs ys : List ℕ) (f : ℕ → Refusal) (d m : ℕ) (first : d ≡ dif
   same_good e = same_is ∙ rw e
 
 -- what is told of a chain
-pub told_refused : (v w : Verdict) (r : Refusal) → v ≡ refuse r → Refused r ≡ told (v or_else w)
+pub told_refused : (v w : Verdict) (r : Refusal) → v ≡ refuse r → Err r ≡ told (v or_else w)
 unfolding told ◌or_else◌
 told_refused v w r e = rw e
 
-pub told_last : (v : Verdict) (r : Refusal) → v ≡ refuse r → Refused r ≡ told v
+pub told_last : (v : Verdict) (r : Refusal) → v ≡ refuse r → Err r ≡ told v
 unfolding told
 told_last v r e = rw e
 
-pub told_done : (v : Verdict) → v ≡ good → Accepted ≡ told v
+pub told_done : (v : Verdict) → v ≡ good → (Ok tt) ≡ told v
 unfolding told
 told_done v e = rw e
 
-pub told_on : (v w : Verdict) (r : Checked) → v ≡ good → r ≡ told w → r ≡ told (v or_else w)
+pub told_on : (v w : Verdict) (r : Result Unit Refusal) → v ≡ good → r ≡ told w → r ≡ told (v or_else w)
 told_on v w r g e = e ∙ ap told (sym (good_or_else v w g))
 
-pub told_good : (v : Verdict) (r : Checked) → r ≡ told v → r ≡ Accepted → v ≡ good
+pub told_good : (v : Verdict) (r : Result Unit Refusal) → r ≡ told v → r ≡ Ok tt → v ≡ good
 unfolding told
 told_good good r e g = refl
 told_good (refuse f) r e g = absurd (let z : ◌≡◌ {A = ℕ} 0 1 = cc in omega arith)
 
-pub told_fault : (v : Verdict) (r : Checked) (f : Refusal) → r ≡ told v → r ≡ Refused f → v ≡ refuse f
+pub told_fault : (v : Verdict) (r : Result Unit Refusal) (f : Refusal) → r ≡ told v → r ≡ Err f → v ≡ refuse f
 unfolding told
 told_fault good r f e g = absurd (let z : ◌≡◌ {A = ℕ} 0 1 = cc in omega arith)
 told_fault (refuse s) r f e g = let q : s ≡ f = cc in ap refuse q
@@ -165,13 +164,13 @@ module _ (c : CheckCall) (ok : check_refusal c ≡ good) where
       })
 
   -- 15 ends the check
-  pub levels_refused : (r : Checked) (f : Refusal) → r ≡ told (levels_right rule g c.index.k (level_of n c.index.levels)) → r ≡ Refused f
+  pub levels_refused : (r : Result Unit Refusal) (f : Refusal) → r ≡ told (levels_right rule g c.index.k (level_of n c.index.levels)) → r ≡ Err f
       → r ≡ told (accepts rule g c.index)
   unfolding accepts
   levels_refused r f e q = q ∙ told_refused _ _ f (told_fault _ r f e q)
 
   -- else the lists decide
-  pub lists_decide : (r : Checked) (table : List ℕ) → levels_right rule g c.index.k (level_of n c.index.levels) ≡ good
+  pub lists_decide : (r : Result Unit Refusal) (table : List ℕ) → levels_right rule g c.index.k (level_of n c.index.levels) ≡ good
       → table ≡ level_of n c.index.levels c.index.k
       → r ≡ told (lists_verdict g c.index.k table c.index.starts c.index.order c.index.entries) → r ≡ told (accepts rule g c.index)
   unfolding accepts lists_verdict top_of
@@ -188,7 +187,7 @@ module _ (c : CheckCall) where
   unfolding check check_after
   area_refused r q = rw q
 
-  pub checks_worked : (r : Checked) (area₁ area' : List ℕ) → check_refusal c ≡ good → r ≡ told (accepts rule (check_graph c) c.index)
+  pub checks_worked : (r : Result Unit Refusal) (area₁ area' : List ℕ) → check_refusal c ≡ good → r ≡ told (accepts rule (check_graph c) c.index)
       → Frame 0 (9 * (c.index.items * c.index.items)) c.area area₁ → area' ≡ fill area₁ 0 (9 * (c.index.items * c.index.items)) (λ _. 0)
       → Checks c (check_end r area')
   checks_worked r area₁ area' ok e f a =
@@ -197,5 +196,5 @@ module _ (c : CheckCall) where
         area = a ∙ cleared c.index.items c.area area₁ f (passed c ok).area ∙ sym (area_worked ok);
       }
 
-  pub checks_refused : (r : Refusal) → check_refusal c ≡ refuse r → (s : Refusal) → s ≡ r → Checks c (check_end (Refused s) c.area)
-  checks_refused r refused s q = record { result = ap Refused q ∙ sym (check_refused c r refused); area = sym (area_refused r refused) }
+  pub checks_refused : (r : Refusal) → check_refusal c ≡ refuse r → (s : Refusal) → s ≡ r → Checks c (check_end (Err s) c.area)
+  checks_refused r refused s q = record { result = ap Err q ∙ sym (check_refused c r refused); area = sym (area_refused r refused) }

@@ -7,8 +7,8 @@ use mathlib.Core.Bool.{Bool, true, false, cond, ◌&&◌, and-false}
 use native.Mathlib.Nat.{suc-mul, zero-mul}
 use native.Mathlib.Numerals.{add-one}
 use native.Mathlib.Omega.{arith}
-use borrow.Author.Tests.{lt-ltb, le-ltb, ltb-true, ltb-false, eq-eqb, ne_eqb}
-use lib.Dec.{eqb}
+use borrow.Author.Tests.{ltb-true, ltb-false, eq-eqb, ne_eqb}
+use lib.Dec.{eqb, ltb}
 use lib.ListN.{length, get_or, take}
 use Rattle.rules.specs.Graph.{Graph}
 use Rattle.rules.specs.Levels.{max_of, first_of}
@@ -19,18 +19,14 @@ use Rattle.rules.proofs.Laws.Loops.{first_found}
 use Rattle.rules.proofs.Laws.Places.{place_lt, place_row, place_column}
 use Rattle.sorting.proofs.Laws.Numbers.{max_none, max_step, max_all, max_mono}
 use Rattle.sorting.specs.Sort.{Contiguous}
-use Rattle.relations.specs.Relations.{bit_at, Lacks, Slot, Kept}
+use Rattle.relations.specs.Relations.{bit_at, Slot, Kept}
 use Rattle.relations.proofs.Laws.Blocks.{digit}
 use Rattle.entries.specs.Entries.{is_first, first_row, entries_row, entries_rows, Firsts}
 
 -- ---- the marks of first positions
-pub first_yes : (t : List ℕ) (p : ℕ) → max_of (take p t) < get_or t p 0 → ◌≡◌ {A = ℕ} 1 (cond (is_first t p) 1 0)
+pub first_mark : (t : List ℕ) (p : ℕ) {most : ℕ} → most ≡ max_of (take p t) → cond {A = ℕ} (ltb most (get_or t p 0)) 1 0 ≡ cond (is_first t p) 1 0
 unfolding is_first
-first_yes t p h = rw (lt-ltb (max_of (take p t)) (get_or t p 0) h)
-
-pub first_not : (t : List ℕ) (p : ℕ) → get_or t p 0 ≤ max_of (take p t) → ◌≡◌ {A = ℕ} 0 (cond (is_first t p) 1 0)
-unfolding is_first
-first_not t p h = rw (le-ltb (max_of (take p t)) (get_or t p 0) h)
+first_mark t p e = rw e refl
 
 unmarked : (b : Bool) → cond {A = ℕ} b 1 0 ≡ 0 → b ≡ false
 unmarked true e = absurd (no e)
@@ -83,8 +79,9 @@ module _ (n : ℕ) (t : List ℕ) (J : ℕ → ℕ → Bool) (code v : ℕ) wher
       ∙ row_miss (u + k) (ap (λ (x : Bool). is_first t (v * n + (u + k)) && x) z ∙ and-false (is_first t (v * n + (u + k))))
       ∙ ap (λ (x : ℕ). entries_row n t J code v x) e
 
-  pub row_past : (w : List ℕ) (from l u : ℕ) → Slot n from l w J → v < n → Lacks w (from + (v * n + u)) l u n → entries_row n t J code v u ≡ entries_row n t J code v (u + 16)
-  row_past w from l u slot hv b = past_bits w from l slot hv u 16 b.inside b.none
+  pub row_past : (w : List ℕ) (from l u : ℕ) → Slot n from l w J → v < n → u + 16 ≤ n → ((j : ℕ) → j < 16 → bit_at l (get_or w (from + (v * n + u) + j) 0) ≡ false)
+      → entries_row n t J code v u ≡ entries_row n t J code v (u + 16)
+  row_past w from l u slot hv inside none = past_bits w from l slot hv u 16 inside none
 
   -- a row without the relation has no entries
   empty_row : (k : ℕ) → ((u : ℕ) → u < k → J v u ≡ false) → entries_row n t J code v k ≡ []
@@ -203,9 +200,9 @@ module _ (g : Graph) (t symbols : List ℕ) (whole : Contiguous t) (square : len
   pub rows_all : entries_rows g.items t (joins g symbols) (code_from 0 symbols) g.items ≡ entries_for g t symbols (max_of t)
   rows_all = rows_order g.items (omega arith) ∙ ap (λ (c : ℕ). entries_for g t symbols c) (max_all t (g.items * g.items) (omega (arith, square)) (omega (arith, square)))
 
--- a row whose labels do not have l
-pub row_lacks : (n from l v all : ℕ) (w : List ℕ) (J : ℕ → ℕ → Bool) → v < n → ((k i : ℕ) → bit_at k all ≡ false → i < n → bit_at k (get_or w (from + v * n + i) 0) ≡ false)
-    → Slot n from l w J → bit_at l all ≡ false → (u : ℕ) → u < n → J v u ≡ false
-row_lacks n from l v all w J hv h s e u hu =
+-- a row none of whose bytes has bit l
+pub row_lacks : (n from l v : ℕ) (w : List ℕ) (J : ℕ → ℕ → Bool) → v < n → ((i : ℕ) → i < n → bit_at l (get_or w (from + v * n + i) 0) ≡ false)
+    → Slot n from l w J → (u : ℕ) → u < n → J v u ≡ false
+row_lacks n from l v w J hv none s u hu =
     let z : from + (v * n + u) ≡ from + v * n + u = omega arith in
-    sym (s.cell v u hv hu) ∙ rw z (h l u e hu)
+    sym (s.cell v u hv hu) ∙ rw z (none u hu)

@@ -1,13 +1,12 @@
 -- Counting the entries of a row without making them.
-use Prim.Native.Nat.{ℕ, zero, suc, ◌+◌, ◌*◌, ◌/◌, ◌%◌, ◌^◌, ◌≤◌, ◌<◌}
+use Prim.Native.Nat.{ℕ, zero, suc, ◌+◌, ◌*◌, ◌≤◌, ◌<◌}
 use mathlib.Core.Path.{◌≡◌, refl, ap, ap₂, ◌∙◌}
 use mathlib.Core.Logic.{⊎_elim}
 use mathlib.Core.List.{List, [], ◌∷◌, ◌++◌}
 use mathlib.Core.Bool.{Bool, true, false, cond, not, ◌&&◌}
-use native.Mathlib.Nat.{mod-lt}
 use native.Mathlib.Numerals.{add-one}
 use native.Mathlib.Omega.{arith}
-use borrow.Author.Tests.{eq-eqb, ne_eqb, eqb-true, eqb-false}
+use borrow.Author.Tests.{eqb-true, eqb-false}
 use lib.Dec.{eqb}
 use lib.ListN.{length, get_or, length-append}
 use Rattle.rules.specs.Finite.{count_below}
@@ -17,19 +16,6 @@ use Rattle.relations.specs.Relations.{bit_at, Slot}
 use Rattle.entries.specs.Entries.{Went, Firsts, is_first, is_hit, entries_row}
 use Rattle.sorting.proofs.Laws.Difference.{difference_is}
 use Rattle.entries.proofs.Laws.Went.{went_as, went_none}
-
--- one position
-pub hit_none : (first l x : ℕ) → first ≡ 0 → 0 ≡ cond {A = ℕ} (not (eqb first 0) && bit_at l x) 1 0
-hit_none first l x e = rw (eq-eqb first 0 e) refl
-
-digit : (y : ℕ) → y < 2 → y ≡ cond {A = ℕ} (eqb y 1) 1 0
-digit zero h = refl
-digit (suc zero) h = refl
-digit (suc (suc y)) h = absurd (omega arith)
-
-pub hit_some : (first l x : ℕ) → (first ≡ 0 → ⊥) → x / (2 ^ l) % 2 ≡ cond {A = ℕ} (not (eqb first 0) && bit_at l x) 1 0
-unfolding bit_at
-hit_some first l x k = rw (ne_eqb first 0 k) (digit (x / (2 ^ l) % 2) (mod-lt (x / (2 ^ l)) (omega arith)))
 
 -- one position more
 pub count_more : (w : List ℕ) (from firsts l u : ℕ) {a x : ℕ} → a ≡ count_below u (is_hit w from firsts l) → a ≤ u

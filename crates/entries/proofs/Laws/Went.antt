@@ -6,6 +6,9 @@ use native.Mathlib.Omega.{arith}
 use lib.ListN.{length, take, drop, set, length-set, length-append, take-append-drop}
 use lib.Seq.{sets-eq, take_at, drop_at, length-take-le, drop-drop}
 use Rattle.rules.specs.Accept.{difference}
+use Rattle.std.proofs.Common.{Bor}
+use Rattle.entries.specs.declared.list.EntryList.{EntryList}
+use Rattle.entries.specs.Lent.{Same}
 use Rattle.entries.specs.Entries.{Went}
 
 -- what `meet` says of one entry
@@ -67,3 +70,20 @@ went_full k m m' a b s l e h = record { count = omega arith; size = refl; text =
 
 pub went_as : (at m r m' : ℕ) (es fs s a b : List ℕ) → es ≡ fs → Went at m r m' es s a b → Went at m r m' fs s a b
 went_as at m r m' es fs s a b e w = subst (λ (l : List ℕ). Went at m r m' l s a b) e w
+
+-- ---- from the start
+pub went_from : {at m r m' : ℕ} {es s old new : List ℕ} → at ≡ 0 → m ≡ 0 → Went at m r m' es s old new → Went 0 0 r m' es s old new
+went_from {at} {m} {r} {m'} {es} {s} {old} {new} e d w = subst (λ (x : ℕ). Went 0 x r m' es s old new) d (subst (λ (x : ℕ). Went x m r m' es s old new) e w)
+
+-- ---- the lists that are lent
+pub same_refl : (a : EntryList) → Same a a
+same_refl a = record { stored = refl; out = refl; size = refl }
+
+pub same_trans : {a b d : EntryList} → Same a b → Same b d → Same a d
+same_trans p q = record { stored = q.stored ∙ p.stored; out = q.out ∙ p.out; size = q.size ∙ p.size }
+
+pub went_on : {a b : EntryList} {at m r m' : ℕ} {es old new : List ℕ} → Same a b → Went at m r m' es b.stored.now old new → Went at m r m' es a.stored.now old new
+went_on {a} {b} {at} {m} {r} {m'} {es} {old} {new} s w = subst (λ (x : List ℕ). Went at m r m' es x old new) (ap (λ (x : Bor (List ℕ)). x.now) s.stored) w
+
+pub went_back : {a b : EntryList} {at m r m' : ℕ} {es old new : List ℕ} → Same a b → Went at m r m' es a.stored.now old new → Went at m r m' es b.stored.now old new
+went_back {a} {b} {at} {m} {r} {m'} {es} {old} {new} s w = subst (λ (x : List ℕ). Went at m r m' es x old new) (sym (ap (λ (x : Bor (List ℕ)). x.now) s.stored)) w

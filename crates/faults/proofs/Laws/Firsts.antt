@@ -20,7 +20,7 @@ use Rattle.rules.proofs.Laws.Numbering.{max_bounds}
 use Rattle.twins.specs.Chains.{word, set_word}
 use Rattle.numbering.specs.Needs.{Steady}
 use Rattle.faults.specs.Needs.{Firsts, Noted}
-use Rattle.numbering.proofs.Laws.Words.{length_word, word_same, word_below, take_word, drop_word}
+use Rattle.packing.proofs.Laws.Words.{length_word, word_same, word_below, take_word, drop_word}
 use Rattle.faults.proofs.Laws.Right.{has_number, first_self, right_high, right_agree}
 use Rattle.numbering.proofs.Laws.Taken.{steady_refl}
 

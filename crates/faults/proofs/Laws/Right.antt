@@ -8,12 +8,15 @@ use native.Mathlib.Omega.{arith}
 use lib.Dec.{eqb}
 use lib.ListN.{length, get_or, take}
 use lib.Seq.{take-suc}
+use Rattle.std.specs.Prelude.{Some, None}
 use borrow.Author.Tests.{eq-eqb, ne_eqb, le-leb, lt-leb, not-false}
 use Rattle.rules.specs.Finite.{any_below}
 use Rattle.rules.specs.Graph.{Graph}
-use Rattle.rules.specs.Rule.{Rule}
-use Rattle.rules.specs.Levels.{first_of, max_of, connected_at, agree_at}
+use Rattle.rules.specs.Rule.{Rule, rule}
+use Rattle.rules.specs.Levels.{level_of, first_of, max_of, connected_at, agree_at}
 use Rattle.rules.specs.Accept.{number_ok, level_ok, first_fault}
+use Rattle.twins.specs.Marks.{marked_graph}
+use Rattle.numbering.specs.Needs.{Fault}
 use Rattle.rules.proofs.Laws.Finite.{first_none}
 use Rattle.rules.proofs.Laws.Loops.{first_found}
 use Rattle.rules.proofs.Laws.Accepted.{right_find}
@@ -65,19 +68,37 @@ module _ (ρ : Rule) (g : Graph) (i : ℕ) (T : ℕ → List ℕ) where
   unfolding is_fault
   fault_no p e k = rw (← e) k
 
-  pub fault_found : (p : ℕ) → p < g.items * g.items → any_below p (is_fault ρ g i T) ≡ false → is_fault ρ g i T p ≡ true → p ≡ first_fault ρ g i T
+  first_found_lem : (p : ℕ) → p < g.items * g.items → any_below p (is_fault ρ g i T) ≡ false → is_fault ρ g i T p ≡ true → p ≡ first_fault ρ g i T
   unfolding is_fault first_fault
-  fault_found p h none e = first_found (is_fault ρ g i T) (g.items * g.items) p h none e
+  first_found_lem p h none e = first_found (is_fault ρ g i T) (g.items * g.items) p h none e
 
-  pub fault_none : (p : ℕ) → p ≤ g.items * g.items → g.items * g.items ≤ p → any_below p (is_fault ρ g i T) ≡ false → p ≡ first_fault ρ g i T
+  none_found : any_below (g.items * g.items) (is_fault ρ g i T) ≡ false → g.items * g.items ≡ first_fault ρ g i T
   unfolding is_fault first_fault
-  fault_none p h k none =
-      let e : p ≡ g.items * g.items = omega arith in
-      e ∙ sym (first_none (g.items * g.items) (is_fault ρ g i T) (rw e at none))
+  none_found none = sym (first_none (g.items * g.items) (is_fault ρ g i T) none)
 
   -- a right number is at most one above the largest before it
   pub right_small : (p : ℕ) {b : Bool} {c : ℕ} → b ≡ level_ok ρ g i T p → not b ≡ false → c ≡ get_or (T i) p 0 → c ≤ suc (max_of (take p (T i)))
   right_small p {b} {c} e k ec = rw ec (right_find ρ g i T p (sym e ∙ not-false b k)).next
+
+-- what the search of a level answers
+module _ (n i : ℕ) (levels area : List ℕ) where
+  abbrev faulty : ℕ → Bool
+  faulty = is_fault rule (marked_graph n area) i (level_of n levels)
+
+  pub fault_at : (p : ℕ) → p < n * n → any_below p faulty ≡ false → faulty p ≡ true → Fault n i levels area (Some p)
+  fault_at p h none e =
+      record {
+        found = λ q k. let s : q ≡ p = (let z : Some p ≡ Some q = k in cc) in rw s (h, first_found_lem rule (marked_graph n area) i (level_of n levels) p h none e);
+        none = λ k. absurd (let z : Some p ≡ None = k in cc);
+      }
+
+  pub fault_none : (p : ℕ) → p ≤ n * n → n * n ≤ p → any_below p faulty ≡ false → Fault n i levels area None
+  fault_none p h k none =
+      let e : p ≡ n * n = omega arith in
+      record {
+        found = λ q k. absurd (let z : None ≡ Some q = k in cc);
+        none = λ k. none_found rule (marked_graph n area) i (level_of n levels) (rw e at none);
+      }
 
 -- the largest of one number more
 pub max_take : (t : List ℕ) (p top c : ℕ) → p < length t → top ≡ max_of (take p t) → c ≡ get_or t p 0 → max top c ≡ max_of (take (p + 1) t)

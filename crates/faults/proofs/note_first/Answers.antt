@@ -8,7 +8,7 @@ pub returns-then-c-top : goal.returns-then-c-top
 returns-then-c-top c = record { largest = omega arith; old = λ h. refl; new = λ h. absurd (omega (arith, c.if-c-top.true)) }
 
 pub set_word-requires : goal.set_word-requires
-set_word-requires c = (omega arith, omega (arith, square_le c.requires.0))
+set_word-requires c = record { room = omega arith; small = omega (arith, square_le c.requires.0) }
 
 pub returns : goal.returns
 returns c = record { largest = omega (arith, c.if-c-top.false); old = λ h. absurd (omega (arith, c.if-c-top.false)); new = λ h. c.set_word.ensures }

@@ -6,22 +6,17 @@ use Prim.Native.Nat.{ℕ, ◌+◌, ◌-◌, ◌≤◌, ◌<◌}
 use native.Mathlib.Omega.{arith}
 use lib.Dec.{leb, ltb}
 use borrow.Author.Tests.{lt-ltb, le-ltb, ltb-true, ltb-false, le-leb, lt-leb, leb-true}
-use Rattle.hexa.specs.Digits.{pick, value_of, digit_of}
-use Rattle.hexa.specs.declared.Read.{Read}
-use Rattle.hexa.specs.declared.Read.TheVariants.{Number, Bad}
-
--- no number was read where none was
-pub bad_number : {A : Type 0} (x : ℕ) → Bad ≡ Number x → A
-bad_number x e = absurd (let z : ◌≡◌ {A = ℕ} 0 1 = cc in omega arith)
+use Rattle.hexa.specs.Digits.{value_of, digit_of}
+use Rattle.std.specs.Prelude.{Option, Some, None, cond}
 
 -- what a byte can be: a digit of 0 to 9, one of A to F, or none
-data Kind (b : ℕ) : Read → Type 0 where
-  low : 48 ≤ b → b ≤ 57 → Kind b (Number (b - 48))
-  high : 65 ≤ b → b ≤ 70 → Kind b (Number (b - 55))
-  none : Kind b Bad
+data Kind (b : ℕ) : Option ℕ → Type 0 where
+  low : 48 ≤ b → b ≤ 57 → Kind b (Some (b - 48))
+  high : 65 ≤ b → b ≤ 70 → Kind b (Some (b - 55))
+  none : Kind b None
 
 by_tests : (b : ℕ) (p q r t : Bool) → leb 48 b ≡ p → leb b 57 ≡ q → leb 65 b ≡ r → leb b 70 ≡ t
-    → Kind b (pick (p && q) (Number (b - 48)) (pick (r && t) (Number (b - 55)) Bad))
+    → Kind b (cond (p && q) (Some (b - 48)) (cond (r && t) (Some (b - 55)) None))
 by_tests b true true r t e f g h = low (leb-true _ _ e) (leb-true _ _ f)
 by_tests b true false true true e f g h = high (leb-true _ _ g) (leb-true _ _ h)
 by_tests b true false true false e f g h = none
@@ -34,22 +29,14 @@ kind : (b : ℕ) → Kind b (value_of b)
 unfolding value_of
 kind b = by_tests b (leb 48 b) (leb b 57) (leb 65 b) (leb b 70) refl refl refl refl
 
--- the three answers, for a byte between given bounds
-pub value_low : (b : ℕ) → 48 ≤ b → b ≤ 57 → value_of b ≡ Number (b - 48)
+-- the answers for a byte between given bounds
+pub value_low : (b : ℕ) → 48 ≤ b → b ≤ 57 → value_of b ≡ Some (b - 48)
 unfolding value_of
 value_low b h k = simp (le-leb 48 b h, le-leb b 57 k)
 
-pub value_high : (b : ℕ) → 65 ≤ b → b ≤ 70 → value_of b ≡ Number (b - 55)
+pub value_high : (b : ℕ) → 65 ≤ b → b ≤ 70 → value_of b ≡ Some (b - 55)
 unfolding value_of
 value_high b h k = simp (le-leb 48 b (omega arith), lt-leb b 57 (omega arith), le-leb 65 b h, le-leb b 70 k)
-
-bad_by_kind : (b : ℕ) (r : Read) → Kind b r → (48 ≤ b → b ≤ 57 → ⊥) → (65 ≤ b → b ≤ 70 → ⊥) → r ≡ Bad
-bad_by_kind b _ (low h k) f g = absurd (f h k)
-bad_by_kind b _ (high h k) f g = absurd (g h k)
-bad_by_kind b _ none f g = refl
-
-pub value_none : (b : ℕ) → (48 ≤ b → b ≤ 57 → ⊥) → (65 ≤ b → b ≤ 70 → ⊥) → value_of b ≡ Bad
-value_none b f g = bad_by_kind b (value_of b) (kind b) f g
 
 -- the byte of a value, in the two parts of the digits
 pub digit_low : (v : ℕ) → v < 10 → digit_of v ≡ v + 48
@@ -65,26 +52,26 @@ pub record Digit (b v : ℕ) : Type 0 where
   pub small : v < 16
   pub is : b ≡ digit_of v
 
-digit_by_kind : (b v : ℕ) (r : Read) → Kind b r → r ≡ Number v → Digit b v
+digit_by_kind : (b v : ℕ) (r : Option ℕ) → Kind b r → r ≡ Some v → Digit b v
 digit_by_kind b v _ (low h k) e =
     let w : b - 48 ≡ v = cc in
     record { small = omega arith; is = omega (arith, digit_low v (omega arith)) }
 digit_by_kind b v _ (high h k) e =
     let w : b - 55 ≡ v = cc in
     record { small = omega arith; is = omega (arith, digit_high v (omega arith)) }
-digit_by_kind b v _ none e = bad_number v e
+digit_by_kind b v _ none e = absurd (cc)
 
-pub digit_of_value : (b v : ℕ) → value_of b ≡ Number v → Digit b v
+pub digit_of_value : (b v : ℕ) → value_of b ≡ Some v → Digit b v
 digit_of_value b v e = digit_by_kind b v (value_of b) (kind b) e
 
 -- the digit of a value below 16 has that value
-by_part : (v : ℕ) (t : Bool) → ltb v 10 ≡ t → v < 16 → value_of (digit_of v) ≡ Number v
+by_part : (v : ℕ) (t : Bool) → ltb v 10 ≡ t → v < 16 → value_of (digit_of v) ≡ Some v
 by_part v true e h =
     let k : v < 10 = ltb-true v 10 e in
-    ap value_of (digit_low v k) ∙ (value_low (v + 48) (omega arith) (omega arith) ∙ ap Number (omega arith))
+    ap value_of (digit_low v k) ∙ (value_low (v + 48) (omega arith) (omega arith) ∙ ap Some (omega arith))
 by_part v false e h =
     let k : 10 ≤ v = ltb-false v 10 e in
-    ap value_of (digit_high v k) ∙ (value_high (v + 55) (omega arith) (omega arith) ∙ ap Number (omega arith))
+    ap value_of (digit_high v k) ∙ (value_high (v + 55) (omega arith) (omega arith) ∙ ap Some (omega arith))
 
-pub value_of_digit : (v : ℕ) → v < 16 → value_of (digit_of v) ≡ Number v
+pub value_of_digit : (v : ℕ) → v < 16 → value_of (digit_of v) ≡ Some v
 value_of_digit v h = by_part v (ltb v 10) refl h

@@ -1,29 +1,20 @@
-use mathlib.Core.Path.{◌≡◌, refl, sym, ap, ◌∙◌}
-use Prim.Native.Nat.{ℕ, suc, ◌+◌, ◌-◌, ◌/◌}
-use native.Mathlib.Omega.{arith}
+use Rattle.std.proofs.Common.{◌≡◌, ℕ, suc, ◌+◌, ◌-◌, ◌/◌, sym, ap, ◌∙◌, arith}
 use lib.ListN.{set, length-set}
 use lib.Seq.{sets}
 use Rattle.hexa.specs.Digits.{spelling}
 use Rattle.hexa.proofs.Laws.Writing.{put_none, sets_turn}
 use Rattle.hexa.proofs.put_digits.Goals as goal
 
-pub loop-i-init : goal.loop-i-init
-loop-i-init c = (omega arith, refl, refl)
-
 pub loop-i-preserved : goal.loop-i-preserved
 loop-i-preserved c =
     let e : c.loop-i.i ≡ suc (c.loop-i.i - 1) = omega arith in (
-      omega arith,
-      simp length-set c.loop-i.invariant.1,
+      simp length-set c.loop-i.invariant.0,
       ap (λ (g : ℕ). sets (set c.loop-i.out (c.args.at + (c.loop-i.i - 1)) g) c.args.at (spelling (c.loop-i.i - 1) (c.loop-i.left / 16))) c.last_digit.ensures
           ∙ (sym (sets_turn c.loop-i.out c.args.at (c.loop-i.i - 1) c.loop-i.left)
-          ∙ (rw (← e) c.loop-i.invariant.2)),
+          ∙ (rw (← e) c.loop-i.invariant.1)),
     )
-
-pub shape_of-out : goal.shape_of-out
-shape_of-out c = c.loop-i.invariant.1
 
 pub returns : goal.returns
 returns c =
     let e : c.loop-i.i ≡ 0 = omega arith in
-    rw (e, put_none) at c.loop-i.invariant.2
+    rw (e, put_none) at c.loop-i.invariant.1

@@ -1,5 +1,7 @@
 -- What the entries promise one after the other: what build left is accepted by check; once check has accepted, stored answers end as direct answers do,
 -- and all pairs of a class are answered or none. All is said of ends that meet the entries' own promises.
+use Rattle.std.proofs.Common.{Err, Ok}
+use Rattle.rules.specs.Outcomes.{counted}
 use Prim.Native.Nat.{ℕ, suc, ◌*◌, ◌/◌, ◌%◌, ◌≤◌, ◌<◌}
 use mathlib.Core.Path.{◌≡◌, refl, sym, ap, ◌∙◌, subst}
 use mathlib.Core.Logic.{◌↔◌}
@@ -11,9 +13,6 @@ use lib.ListN.{length, get_or, take, drop}
 use lib.Seq.{take_at}
 use Rattle.rules.specs.declared.Refusal.{Refusal}
 use Rattle.rules.specs.declared.Refusal.TheVariants.{AnswerRoom}
-use Rattle.rules.specs.declared.Built.TheVariants.{Tables}
-use Rattle.rules.specs.declared.Checked.TheVariants.{Accepted}
-use Rattle.rules.specs.declared.Answered.TheVariants.{Answers, Refused}
 use Rattle.rules.specs.Finite.{table_below}
 use Rattle.rules.specs.Query.{Query, diameter, answer_by, answer_of, meets}
 use Rattle.rules.specs.Reading.{asks, read_tokens}
@@ -54,35 +53,35 @@ from_edges c tokens answers area = direct_call c.index.items c.index.labels c.ed
 unfoldable pub from_tables : CheckCall → List ℕ → List ℕ → List ℕ → List ℕ → StoredCall
 from_tables c table tokens answers area = stored_call c.index.items c.index.labels table c.index.entries tokens answers area
 
-module _ (c : BuildCall) (e : BuildEnd) (built : Builds c e) (classes pairs entries : ℕ) (done : e.result ≡ Tables classes pairs entries) where
-  accepted_outcome : (area : List ℕ) → 9 * (c.items * c.items) ≤ length area → (check (check_of c e classes pairs entries area)).result ≡ Accepted
+module _ (c : BuildCall) (e : BuildEnd) (built : Builds c e) (classes pairs entries : ℕ) (done : e.result ≡ Ok (counted classes pairs entries)) where
+  accepted_outcome : (area : List ℕ) → 9 * (c.items * c.items) ≤ length area → (check (check_of c e classes pairs entries area)).result ≡ Ok tt
   unfolding check_of cut handed_over
   accepted_outcome area room =
-      subst (λ (b : BuildEnd). (check (check_of c b classes pairs entries area)).result ≡ Accepted) (sym (build_end_lem c e built))
+      subst (λ (b : BuildEnd). (check (check_of c b classes pairs entries area)).result ≡ Ok tt) (sym (build_end_lem c e built))
       (builder_is_accepted c classes pairs entries (sym built.result ∙ done) area room)
 
   -- what build writes, cut to the counts that it returned, is accepted, with any area that is large enough
   pub built_is_accepted : (area : List ℕ) → 9 * (c.items * c.items) ≤ length area
-      → (f : CheckEnd) → Checks (check_of c e classes pairs entries area) f → f.result ≡ Accepted
+      → (f : CheckEnd) → Checks (check_of c e classes pairs entries area) f → f.result ≡ Ok tt
   built_is_accepted area room f checked = checked.result ∙ accepted_outcome area room
 
 -- an answer that was given stands at the front of the answer list
-answer_given : (items : ℕ) (list answers area : List ℕ) (v : Verdict) (m : ℕ) → (answer_after items list answers area v).result ≡ Answers m
+answer_given : (items : ℕ) (list answers area : List ℕ) (v : Verdict) (m : ℕ) → (answer_after items list answers area v).result ≡ Ok m
     → take m (answer_after items list answers area v).answers ≡ list
 unfolding answer_after front
 answer_given items list answers area good m e = given (leb (length list) (length answers)) e
   where
-    refused_answers : {C : Type 0} {r : Refusal} → Refused r ≡ Answers m → C
+    refused_answers : {C : Type 0} {r : Refusal} → Err r ≡ Ok m → C
     refused_answers q = let z : ◌≡◌ {A = ℕ} 0 1 = cc in absurd (omega arith)
 
-    given : (b : Bool) → cond b (Answers (length list)) (Refused (AnswerRoom (length list))) ≡ Answers m
+    given : (b : Bool) → cond b (Ok (length list)) (Err (AnswerRoom (length list))) ≡ Ok m
         → take m (cond b (front list answers) answers) ≡ list
     given true q = let l : length list ≡ m = cc in take_at list (drop (length list) answers) m l
     given false q = refused_answers q
 answer_given items list answers area (refuse r) m e = let z : ◌≡◌ {A = ℕ} 0 1 = cc in absurd (omega arith)
 
-module _ (c : CheckCall) (e : CheckEnd) (checked : Checks c e) (ok : e.result ≡ Accepted) where
-  accepted : (check c).result ≡ Accepted
+module _ (c : CheckCall) (e : CheckEnd) (checked : Checks c e) (ok : e.result ≡ Ok tt) where
+  accepted : (check c).result ≡ Ok tt
   accepted = sym checked.result ∙ ok
 
   -- once check has accepted: for every query of diameter at most k and every class, all its pairs meet the query or none does
@@ -116,7 +115,7 @@ module _ (c : CheckCall) (e : CheckEnd) (checked : Checks c e) (ok : e.result �
           list_here (λ p. meets g q (p / n) (p % n)) (n * n) b hb (sym same ∙ (list_find (λ p. meets g q (p / n) (p % n)) (n * n) a m).1)
 
       -- what a direct answer gives holds all pairs of a class or none: a stands among its answers, so does b
-      pub direct_all_or_none : (d : AnswerEnd) → AnswersDirectly (from_edges c tokens answers area) d → (m : ℕ) → d.result ≡ Answers m
+      pub direct_all_or_none : (d : AnswerEnd) → AnswersDirectly (from_edges c tokens answers area) d → (m : ℕ) → d.result ≡ Ok m
           → (class : ℕ) → 0 < class → (a b : ℕ) → a < c.index.items * c.index.items → b < c.index.items * c.index.items
           → get_or (top_of c.index) a 0 ≡ class → get_or (top_of c.index) b 0 ≡ class
           → Memᴰ a (take m d.answers) → Memᴰ b (take m d.answers)
@@ -132,7 +131,7 @@ module _ (c : CheckCall) (e : CheckEnd) (checked : Checks c e) (ok : e.result �
 
       -- and so does a stored answer
       pub stored_all_or_none : (table : List ℕ) → take (c.index.items * c.index.items) table ≡ top_of c.index
-          → (s : AnswerEnd) → AnswersStored (from_tables c table tokens answers area) s → (m : ℕ) → s.result ≡ Answers m
+          → (s : AnswerEnd) → AnswersStored (from_tables c table tokens answers area) s → (m : ℕ) → s.result ≡ Ok m
           → (class : ℕ) → 0 < class → (a b : ℕ) → a < c.index.items * c.index.items → b < c.index.items * c.index.items
           → get_or (top_of c.index) a 0 ≡ class → get_or (top_of c.index) b 0 ≡ class
           → Memᴰ a (take m s.answers) → Memᴰ b (take m s.answers)
@@ -144,7 +143,7 @@ module _ (c : CheckCall) (e : CheckEnd) (checked : Checks c e) (ok : e.result �
           (direct_all_or_none d itself m (sym (ap (λ (x : AnswerEnd). x.result) ends) ∙ some_answers) class some a b ha hb ea eb
           (subst (λ (x : AnswerEnd). Memᴰ a (take m x.answers)) ends h))
 
-module _ (c : BuildCall) (e : BuildEnd) (built : Builds c e) (classes pairs entries : ℕ) (done : e.result ≡ Tables classes pairs entries) where
+module _ (c : BuildCall) (e : BuildEnd) (built : Builds c e) (classes pairs entries : ℕ) (done : e.result ≡ Ok (counted classes pairs entries)) where
   -- with what build left, stored answers end as direct answers do: no check has to be called
   pub built_answers : (tokens answers area table : List ℕ) → take (c.items * c.items) table ≡ top_of (cut c e classes pairs entries)
       → (s d : AnswerEnd) → AnswersStored (from_tables (check_of c e classes pairs entries area) table tokens answers area) s

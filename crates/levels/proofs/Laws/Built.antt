@@ -1,11 +1,12 @@
 -- From the marks back to the edge table: what is built and what is checked.
+use Rattle.std.proofs.Common.{Result}
+use Rattle.rules.specs.declared.Refusal.{Refusal}
 use Prim.Native.Nat.{ℕ, ◌+◌, ◌*◌}
 use mathlib.Core.Path.{◌≡◌, sym, ap, ◌∙◌}
 use mathlib.Core.List.{List}
 use native.Mathlib.Omega.{arith}
 use lib.ListN.{length, drop}
 use lib.Seq.{drop-drop}
-use Rattle.rules.specs.declared.Checked.{Checked}
 use Rattle.rules.specs.Rule.{rule}
 use Rattle.rules.specs.Levels.{max_of, level_of}
 use Rattle.rules.specs.Outcomes.{front, told}
@@ -32,7 +33,7 @@ module _ (n k : ℕ) (edges l w w' : List ℕ) (marked : Marked n edges w') (beh
         past = past w'' s.kept;
       }
 
-  pub levels_checked : (r : Checked) (w'' : List ℕ) → Judged n k l w' r w'' → LevelsChecked n k edges l w r w''
+  pub levels_checked : (r : Result Unit Refusal) (w'' : List ℕ) → Judged n k l w' r w'' → LevelsChecked n k edges l w r w''
   levels_checked r w'' j =
       record {
         verdict = λ labels few fit. j.verdict ∙ ap told (marked_right n labels edges w' few fit marked rule k (level_of n l));

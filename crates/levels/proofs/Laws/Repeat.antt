@@ -2,14 +2,14 @@
 use Prim.Native.Nat.{ℕ, zero, suc, ◌+◌, ◌*◌, ◌-◌, ◌/◌, ◌%◌, ◌≤◌, ◌<◌}
 use mathlib.Core.Path.{◌≡◌, refl, sym, ap, ap₂, ◌∙◌, fun_ext}
 use mathlib.Core.Logic.{⊎_elim}
-use mathlib.Core.List.{List}
+use mathlib.Core.List.{List, append_assoc}
 use mathlib.Core.Bool.{Bool, true, not, ◌&&◌}
 use native.Mathlib.Nat.{mul-le-mul_right, eq-or-lt_of_le}
-use native.Mathlib.Numerals.{add-one}
 use native.Mathlib.Omega.{arith}
 use lib.Dec.{eqb}
-use lib.ListN.{length, get_or, take, set}
-use lib.Seq.{ext_get_or, take-suc, take_all, length-take-le}
+use lib.ListN.{length, get_or, take, drop}
+use lib.Seq.{paste}
+use Rattle.std.specs.Prelude.{None}
 use Rattle.rules.specs.Finite.{any_below, all_below}
 use Rattle.rules.specs.Graph.{connected}
 use Rattle.rules.specs.Rule.{rule}
@@ -19,17 +19,15 @@ use Rattle.rules.specs.Writing.{put}
 use Rattle.rules.proofs.Laws.Accepted.{accepted_at}
 use Rattle.rules.proofs.Laws.Finite.{none_any, all_same}
 use Rattle.rules.proofs.Laws.Places.{row_lt, column_lt}
-use Rattle.rules.proofs.Laws.Put.{put_more, put_none}
 use Rattle.twins.specs.Marks.{marked_graph}
 use Rattle.twins.specs.Standing.{Ready, Stands, base}
 use Rattle.numbering.specs.Needs.{Numbered, Faulty}
 use Rattle.levels.specs.Repeat.{LooksBelow, LooksAlike, Repeats, Topped}
 use Rattle.numbering.proofs.Laws.Numbers.{numbering_same}
-use Rattle.numbering.proofs.Laws.Level.{level_kept}
 use Rattle.twins.proofs.Laws.Reach.{reach, reach_suc}
 use Rattle.faults.proofs.Laws.Right.{is_fault, fault_no, fault_none}
 use Rattle.levels.proofs.Laws.Stack.{kept_refl}
-use Rattle.twins.proofs.Laws.Tables.{less_one, base_next, place_get, level_length}
+use Rattle.twins.proofs.Laws.Tables.{less_one, base_next, level_length, level_part}
 
 -- level j+3 over the equal levels j+2 and j+1
 module _ (n : ℕ) (levels area : List ℕ) (j : ℕ) (e : level_of n levels (suc (suc j)) ≡ level_of n levels (suc j)) (looks : LooksAlike (suc (suc (suc j))))
@@ -114,7 +112,7 @@ copied n (suc (suc (suc j))) l w l' top r d t e =
     }
 
 -- level i is the same as the level below
-pub level_repeats : (n i : ℕ) (l w : List ℕ) → Ready n i l w → Repeats n i l → level_of n l i ≡ level_of n l (i - 1) → Faulty n i l w (n * n) w
+pub level_repeats : (n i : ℕ) (l w : List ℕ) → Ready n i l w → Repeats n i l → level_of n l i ≡ level_of n l (i - 1) → Faulty n i l w None w
 level_repeats n zero l w r d e = absurd (omega (arith, d.deep))
 level_repeats n (suc zero) l w r d e = absurd (omega (arith, d.deep))
 level_repeats n (suc (suc zero)) l w r d e = absurd (omega (arith, d.deep))
@@ -126,7 +124,7 @@ level_repeats n (suc (suc (suc j))) l w r d e =
     let same : level_of n l (suc (suc j)) ≡ level_of n l (suc j) = rw (b, a) at d.same in
     let ok : LevelsAccepted rule g (suc (suc j)) T = rw a at r.below in
     record {
-      fault = fault_none rule g (suc (suc (suc j))) T (n * n) (omega arith) (omega arith)
+      fault = fault_none n (suc (suc (suc j))) l w (n * n) (omega arith) (omega arith)
           (none_any (n * n) (is_fault rule g (suc (suc (suc j))) T)
           (λ p h. fault_no rule g (suc (suc (suc j))) T p (sym (ok_again n l w j same d.looks ok (rw a at e) p h)) refl));
       kept = kept_refl n w;
@@ -136,53 +134,16 @@ level_repeats n (suc (suc (suc j))) l w r d e =
 pub alike_more : (f g : ℕ → ℕ) (p : ℕ) → ((q : ℕ) → q < p → f q ≡ g q) → f p ≡ g p → (q : ℕ) → q < p + 1 → f q ≡ g q
 alike_more f g p h e q l = ⊎_elim (λ (d : q ≡ p). rw d e) (λ (k : q < p). h q k) (eq-or-lt_of_le (omega arith))
 
--- where level i and the level below it lie
-pub record Places (n i : ℕ) (l : List ℕ) (upper lower : ℕ) : Type 0 where
-  pub first : upper ≡ base n i
-  pub second : lower ≡ base n (i - 1)
-  pub apart : lower + n * n ≤ upper
-  pub room : upper + n * n ≤ length l
-
 pub lower_stands : (n i : ℕ) (l : List ℕ) → Stands n l i → 1 < i → Stands n l (i - 1)
 lower_stands n i l st h = record { some = omega arith; room = omega (arith, mul-le-mul_right {m = i - 1} {n = i} (n * n) (omega arith), st.room) }
 
-pub places : (n i : ℕ) (l : List ℕ) {upper lower : ℕ} → Stands n l i → 1 < i → upper ≡ base n i → lower ≡ base n (i - 1) → Places n i l upper lower
-places n i l st h a b =
-    record { first = a; second = b; apart = omega (arith, a, b, base_next n (i - 1) (omega arith)); room = omega (arith, a, base_next n i st.some, st.room) }
-
--- two levels that are the same at every position
-pub same_levels : (n i : ℕ) (l : List ℕ) {upper lower : ℕ} → Stands n l i → 1 < i → Places n i l upper lower → (p : ℕ) → p ≤ n * n → n * n ≤ p
-    → ((q : ℕ) → q < p → get_or l (upper + q) 0 ≡ get_or l (lower + q) 0) → level_of n l i ≡ level_of n l (i - 1)
-same_levels n i l st h z p a b f =
-    let size = level_length n l i st.some st.room in
-    let below = level_length n l (i - 1) (omega arith) (omega (arith, mul-le-mul_right {m = i - 1} {n = i} (n * n) (omega arith), st.room)) in
-    ext_get_or 0 (level_of n l i) (level_of n l (i - 1)) (size ∙ sym below)
-    (λ q k.
-    place_get n l i q st.some (omega (arith, size)) ∙ ap (λ (b : ℕ). get_or l (b + q) 0) (sym z.first) ∙ f q (omega (arith, size))
-    ∙ ap (λ (b : ℕ). get_or l (b + q) 0) z.second ∙ sym (place_get n l (i - 1) q (omega arith) (omega (arith, size))))
-
--- a level while it is copied
-module _ (n i : ℕ) (l : List ℕ) (st : Stands n l i) (h : 1 < i) where
-  below_room : (i - 1) * (n * n) + n * n ≤ length l
-  below_room = omega (arith, base_next n i st.some, st.room)
-
-  size_below : length (level_of n l (i - 1)) ≡ n * n
-  size_below = level_length n l (i - 1) (omega arith) (omega (arith, below_room))
-
-  size_part : (p : ℕ) → p ≤ n * n → length (take p (level_of n l (i - 1))) ≡ p
-  size_part p k = length-take-le p (level_of n l (i - 1)) (omega (arith, size_below))
-
-  pub copy_start : l ≡ put l (base n i) (take 0 (level_of n l (i - 1)))
-  copy_start = sym (put_none l (base n i))
-
-  module _ (p : ℕ) (l' : List ℕ) (e : l' ≡ put l (base n i) (take p (level_of n l (i - 1)))) where
-    pub copy_more : {upper lower : ℕ} → Places n i l upper lower → p < n * n → set l' (upper + p) (get_or l' (lower + p) 0) ≡ put l (base n i) (take (p + 1) (level_of n l (i - 1)))
-    copy_more {upper} {lower} z k =
-        let t = level_of n l (i - 1) in
-        let at : get_or l' ((i - 1 - 1) * (n * n) + p) 0 ≡ get_or t p 0 =
-        sym (place_get n l' (i - 1) p (omega arith) k) ∙ ap (λ (z : List ℕ). get_or (level_of n z (i - 1)) p 0) e
-        ∙ ap (λ (z : List ℕ). get_or z p 0) (level_kept n l (base n i) (take p t) (i - 1) (omega arith) (omega (arith, below_room))) in
-        rw (z.first, z.second, at, e, add-one p, take-suc t p 0 (omega (arith, size_below))) (put_more l (base n i) (take p t) p (get_or t p 0) (size_part p (omega arith)) (omega (arith, below_room)))
-
-    pub copy_done : p ≤ n * n → n * n ≤ p → l' ≡ put l (base n i) (level_of n l (i - 1))
-    copy_done a b = e ∙ ap (put l (base n i)) (take_all p (level_of n l (i - 1)) (omega (arith, size_below)))
+-- the level below level i in its place
+pub copy_done : (n i : ℕ) (l : List ℕ) → Stands n l i → 1 < i → paste l ((i - 1) * (n * n)) (drop ((i - 2) * (n * n)) l) ((i - 1) * (n * n) - (i - 2) * (n * n)) ≡ put l (base n i) (level_of n l (i - 1))
+unfolding put
+copy_done n i l st h =
+    let d : i - 1 - 1 ≡ i - 2 = omega arith in
+    let one = base_next n (i - 1) (omega arith) in
+    let size : length (level_of n l (i - 1)) ≡ n * n = level_length n l (i - 1) (omega arith) (lower_stands n i l st h).room in
+    let part = rw d at (level_part n (i - 1) l) in
+    let gap : (i - 1) * (n * n) - (i - 2) * (n * n) ≡ n * n = omega (arith, one, ap (λ (j : ℕ). j * (n * n)) d) in
+    rw part (rw (gap, size) (append_assoc (take ((i - 1) * (n * n)) l) (level_of n l (i - 1)) (drop ((i - 1) * (n * n) + n * n) l)))

@@ -1,4 +1,6 @@
 -- One level more: over those that stand at the front, or found right.
+use Rattle.std.proofs.Common.{Err, Ok}
+use Rattle.std.specs.Prelude.{Option, Some, None}
 use Prim.Native.Nat.{ℕ, zero, suc, ◌+◌, ◌*◌, ◌/◌, ◌%◌, ◌≤◌, ◌<◌}
 use mathlib.Core.Path.{◌≡◌, refl, sym, ap, ◌∙◌, fun_ext}
 use mathlib.Core.List.{List, ◌++◌, append_assoc}
@@ -19,7 +21,6 @@ use Rattle.rules.specs.Accept.{first_fault, levels_right}
 use Rattle.rules.specs.Verdict.{good, refuse, when, ◌or_else◌}
 use Rattle.rules.specs.Writing.{put}
 use Rattle.rules.specs.Outcomes.{front, told}
-use Rattle.rules.specs.declared.Checked.TheVariants.{Accepted, Refused}
 use Rattle.rules.proofs.Laws.Agree.{agree_below}
 use Rattle.rules.proofs.Laws.Levels.{level_front, levels_size, over_length, stack_top, level_written, level_is}
 use Rattle.rules.proofs.Laws.Builder.{accepted_same, written_accepted}
@@ -34,6 +35,7 @@ use Rattle.rules.proofs.Laws.Fronts.{front_length}
 use Rattle.rules.proofs.Laws.Lawful.{rule_laws}
 use Rattle.twins.proofs.Laws.Tables.{less_one}
 use Rattle.twins.proofs.Laws.Areas.{edges_kept, ready_area}
+use Rattle.numbering.proofs.Laws.Turn.{fault_kept}
 
 -- writing behind a front
 front_more : (b s l : List ℕ) → put (front b l) (length b) s ≡ front (b ++ s) l
@@ -178,18 +180,22 @@ module _ (n i j k : ℕ) (l w w' : List ℕ) where
       }))
       kept.marks kept.size
 
-pub fault_kept : (n j : ℕ) (l w w' : List ℕ) (p : ℕ) (w'' : List ℕ) → Kept n w w' → Faulty n j l w' p w'' → p ≡ first_fault rule (marked_graph n w) j (level_of n l)
-fault_kept n j l w w' p w'' kept f = rw (edges_kept n w w' kept.marks) at f.fault
-
-pub judged_fault : (n i j k : ℕ) (l w w' : List ℕ) (p : ℕ) (w'' : List ℕ) → levels_right rule (marked_graph n w) i (level_of n l) ≡ good → j ≡ suc i → i < k
-    → Kept n w w' → Faulty n j l w' p w'' → p < n * n → Judged n k l w (Refused (LevelFault j p)) w''
+pub judged_fault : (n i j k : ℕ) (l w w' : List ℕ) (p : ℕ) {r : Option ℕ} (w'' : List ℕ) → levels_right rule (marked_graph n w) i (level_of n l) ≡ good → j ≡ suc i → i < k
+    → Kept n w w' → Faulty n j l w' r w'' → r ≡ Some p → Judged n k l w (Err (LevelFault j p)) w''
 unfolding told
-judged_fault n i j k l w w' p w'' so_far ej h kept f b =
+judged_fault n i j k l w w' p w'' so_far ej h kept f e =
+    let d = (fault_kept n j l w w' kept.marks f.fault).found p e in
     record {
-      verdict = sym (ap told (right_refuse rule (marked_graph n w) (level_of n l) i so_far j p k ej (fault_kept n j l w w' p w'' kept f) b (omega arith)));
+      verdict = sym (ap told (right_refuse rule (marked_graph n w) (level_of n l) i so_far j p k ej d.1 d.0 (omega arith)));
       kept = kept_trans n w w' w'' kept f.kept;
     }
 
-pub judged_good : (n k : ℕ) (l w w' : List ℕ) → levels_right rule (marked_graph n w) k (level_of n l) ≡ good → Kept n w w' → Judged n k l w Accepted w'
+-- one level more is right
+pub judged_more : (n i j : ℕ) (l w w' : List ℕ) {r : Option ℕ} (w'' : List ℕ) → levels_right rule (marked_graph n w) i (level_of n l) ≡ good → j ≡ suc i
+    → Kept n w w' → Faulty n j l w' r w'' → r ≡ None → levels_right rule (marked_graph n w) j (level_of n l) ≡ good
+judged_more n i j l w w' w'' so_far ej kept f e =
+    right_more rule (marked_graph n w) (level_of n l) i so_far j (n * n) ej ((fault_kept n j l w w' kept.marks f.fault).none e) (omega arith)
+
+pub judged_good : (n k : ℕ) (l w w' : List ℕ) → levels_right rule (marked_graph n w) k (level_of n l) ≡ good → Kept n w w' → Judged n k l w (Ok tt) w'
 unfolding told
 judged_good n k l w w' e kept = record { verdict = sym (ap told e); kept = kept }

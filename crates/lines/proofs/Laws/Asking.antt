@@ -1,5 +1,6 @@
 -- A stored answer: the code's call is the program's, and its text is the machine's.
-use Prim.Native.Nat.{ℕ, zero, suc, ◌+◌, ◌-◌, ◌*◌, ◌≤◌, ◌<◌}
+use Rattle.std.proofs.Common.{Err, Ok, Result}
+use Prim.Native.Nat.{ℕ, zero, suc, ◌-◌, ◌*◌, ◌≤◌, ◌<◌}
 use mathlib.Core.Path.{◌≡◌, refl, sym, ap, ◌∙◌}
 use mathlib.Core.List.{List}
 use mathlib.Core.Bool.{Bool, true, false, cond}
@@ -8,11 +9,9 @@ use native.Mathlib.Omega.{arith}
 use borrow.Author.Tests.{leb-true}
 use lib.Dec.{leb}
 use lib.ListN.{length, take, drop, replicate, length-replicate}
-use lib.Seq.{sets, ext_get_or, get_or-take, length-take-le}
+use lib.Seq.{ext_get_or, get_or-take, length-take-le}
 use Rattle.rules.specs.declared.Refusal.{Refusal}
 use Rattle.rules.specs.declared.Refusal.TheVariants.{AnswerRoom}
-use Rattle.rules.specs.declared.Answered.{Answered}
-use Rattle.rules.specs.declared.Answered.TheVariants.{Answers, Refused}
 use Rattle.rules.specs.Finite.{table_below}
 use Rattle.rules.specs.Levels.{level_of}
 use Rattle.rules.specs.Verdict.{Verdict, good, refuse, room}
@@ -25,52 +24,40 @@ use Rattle.format.specs.Frames.{token_count, token_at, tokens_of}
 use Rattle.format.proofs.Laws.Frames.{count_small}
 use Rattle.format.specs.Texts.{answer_by, answer_text, list_text, refusal_text}
 use Rattle.machine.specs.Machine.{stored_call}
-use Rattle.lines.specs.Lent.{Written}
-use Rattle.format.proofs.Laws.Texts.{refusal_length, list_length}
+use Rattle.lines.specs.Lent.{Found}
 
-refused_answers : {C : Type 0} {r : Refusal} {m : ℕ} → Refused r ≡ Answers m → C
+refused_answers : {C : Type 0} {r : Refusal} {m : ℕ} → Err r ≡ Ok m → C
 refused_answers e = let z : ◌≡◌ {A = ℕ} 0 1 = cc in absurd (omega arith)
 
 -- an answer of m positions has room for them
-fits_by : (n room m : ℕ) (b : Bool) → leb n room ≡ b → cond b (Answers n) (Refused (AnswerRoom n)) ≡ Answers m → m ≤ room
+fits_by : (n room m : ℕ) (b : Bool) → leb n room ≡ b → cond b (Ok n) (Err (AnswerRoom n)) ≡ Ok m → m ≤ room
 fits_by n room m true t e = let z : n ≡ m = cc in omega (arith, leb-true n room t)
 fits_by n room m false t e = refused_answers e
 
-fits_after : (items : ℕ) (list answers area : List ℕ) (m : ℕ) (v : Verdict) → (answer_after items list answers area v).result ≡ Answers m → m ≤ length answers
+fits_after : (items : ℕ) (list answers area : List ℕ) (m : ℕ) (v : Verdict) → (answer_after items list answers area v).result ≡ Ok m → m ≤ length answers
 unfolding answer_after
 fits_after items list answers area m good e = fits_by (length list) (length answers) m (leb (length list) (length answers)) refl e
 fits_after items list answers area m (refuse r) e = refused_answers e
 
-answers_fit : (c : StoredCall) (m : ℕ) → (stored c).result ≡ Answers m → m ≤ length c.answers
+answers_fit : (c : StoredCall) (m : ℕ) → (stored c).result ≡ Ok m → m ≤ length c.answers
 unfolding stored
 answers_fit c m e = fits_after c.items (stored_list c) c.answers c.area m (stored_refusal c) e
 
--- the code's call is the program's: its text, and how long its answer is
-module _ (items labels : ℕ) (table entries tokens : List ℕ) where
-  abbrev pub call : StoredCall
-  call =
-      record {
-        items = items;
-        labels = labels;
-        table = table;
-        entries = entries;
-        tokens = tokens;
-        answers = replicate 1024 0;
-        area = replicate 9216 0;
-      }
+-- what was found, as a text
+module _ (c : StoredCall) (result : Result ℕ Refusal) (after : List ℕ) (found : Found c result after) where
+  pub text_answers : (m : ℕ) → result ≡ Ok m → list_text m (take m after) ≡ answer_text (stored c)
+  unfolding answer_text answer_by
+  text_answers m e = ap (λ (l : List ℕ). list_text m (take m l)) found.answers_made ∙ ap (answer_by (stored c).answers) (sym e ∙ found.result)
 
-  text_answers : (m : ℕ) (result : Answered) (after : List ℕ) → result ≡ (stored call).result → after ≡ (stored call).answers → result ≡ Answers m
-      → list_text m (take m after) ≡ answer_text (stored (stored_call items labels table entries tokens))
-  unfolding answer_text answer_by stored_call
-  text_answers m result after r s e = ap (λ (l : List ℕ). list_text m (take m l)) s ∙ ap (answer_by (stored call).answers) (sym e ∙ r)
+  pub text_refused : (r : Refusal) → result ≡ Err r → refusal_text r ≡ answer_text (stored c)
+  unfolding answer_text answer_by
+  text_refused r e = ap (answer_by (stored c).answers) (sym e ∙ found.result)
 
-  text_refused : (r : Refusal) (result : Answered) → result ≡ (stored call).result → result ≡ Refused r
-      → refusal_text r ≡ answer_text (stored (stored_call items labels table entries tokens))
-  unfolding answer_text answer_by stored_call
-  text_refused r result e f = ap (answer_by (stored call).answers) (sym f ∙ e)
-
-  pub many_fits : (m : ℕ) (result : Answered) → result ≡ (stored call).result → result ≡ Answers m → m ≤ 1024
-  many_fits m result r e = omega (arith, answers_fit call m (sym r ∙ e), length-replicate {A = ℕ} 1024 0)
+pub many_fits : (items labels : ℕ) (table entries tokens after : List ℕ) (m : ℕ) (result : Result ℕ Refusal) → Found (stored_call items labels table entries tokens) result after → result ≡ Ok m
+    → m ≤ 1024
+unfolding stored_call
+many_fits items labels table entries tokens after m result found e =
+    omega (arith, answers_fit (stored_call items labels table entries tokens) m (sym found.result ∙ e), length-replicate {A = ℕ} 1024 0)
 
 -- the table of level k as a part of all levels
 pub table_part : (n k : ℕ) (levels : List ℕ) → 0 < k
@@ -103,31 +90,25 @@ pub tokens_of_lem : (line : List ℕ) → length line ≤ 512 → take (token_co
 unfolding tokens_of
 tokens_of_lem line h = tokens_cut (replicate 255 0) (token_count line) (token_at line) (omega (arith, count_small line h, length-replicate {A = ℕ} 255 0))
 
--- the table that the code cuts out, and the texts that it writes over it
-module _ (items labels k : ℕ) (levels entries tokens : List ℕ) (to one : ℕ) where
-  abbrev table : List ℕ
-  table = take (to - (to - one)) (drop (to - one) levels)
+-- the code's call, with the table that it cuts out, is the program's
+module _ (items labels k : ℕ) (levels entries tokens : List ℕ) (to one : ℕ) (e : to ≡ k * (items * items)) (f : one ≡ 1 * (items * items)) (h : 0 < k) where
+  abbrev call : List ℕ → StoredCall
+  call answers =
+      record {
+        items = items;
+        labels = labels;
+        table = take (to - (to - one)) (drop (to - one) levels);
+        entries = entries;
+        tokens = tokens;
+        answers = answers;
+        area = replicate 9216 0;
+      }
 
-  module _ (e : to ≡ k * (items * items)) (f : one ≡ 1 * (items * items)) (h : 0 < k) where
-    table_cut : table ≡ level_of items levels k
-    table_cut = rw (e, f) (table_part items k levels h)
+  call_same : (answers : List ℕ) → answers ≡ replicate 1024 0 → call answers ≡ stored_call items labels (level_of items levels k) entries tokens
+  unfolding stored_call
+  call_same answers r = rw (r, e, f, table_part items k levels h)
 
-    asked : answer_text (stored (stored_call items labels table entries tokens)) ≡ answer_text (stored (stored_call items labels (level_of items levels k) entries tokens))
-    asked = ap (λ (t : List ℕ). answer_text (stored (stored_call items labels t entries tokens))) table_cut
-
-    pub written_answers : (m : ℕ) (result : Answered) (after : List ℕ) → result ≡ (stored (call items labels table entries tokens)).result
-        → after ≡ (stored (call items labels table entries tokens)).answers → result ≡ Answers m → m ≤ length after
-        → (at : ℕ) (old new : List ℕ) → at + 4103 ≤ length old → new ≡ sets old at (list_text m (take m after))
-        → Written (answer_text (stored (stored_call items labels (level_of items levels k) entries tokens))) (7 + 4 * m) at old new
-    written_answers m result after r s t l at old new o u =
-        let text : list_text m (take m after) ≡ answer_text (stored (stored_call items labels (level_of items levels k) entries tokens)) =
-        text_answers items labels table entries tokens m result after r s t ∙ asked in
-        record { size = sym (list_length old after at m l) ∙ ap length text; bytes = u ∙ ap (sets old at) text; inside = omega (arith, many_fits items labels table entries tokens m result r t) }
-
-    pub written_refusal : (r : Refusal) (result : Answered) → result ≡ (stored (call items labels table entries tokens)).result → result ≡ Refused r
-        → (at : ℕ) (old new : List ℕ) → at + 4103 ≤ length old → new ≡ sets old at (refusal_text r)
-        → Written (answer_text (stored (stored_call items labels (level_of items levels k) entries tokens))) 13 at old new
-    written_refusal r result s t at old new o u =
-        let text : refusal_text r ≡ answer_text (stored (stored_call items labels (level_of items levels k) entries tokens)) =
-        text_refused items labels table entries tokens r result s t ∙ asked in
-        record { size = sym (refusal_length r) ∙ ap length text; bytes = u ∙ ap (sets old at) text; inside = omega arith }
+  pub found_by : (answers : List ℕ) → answers ≡ replicate 1024 0 → (result : Result ℕ Refusal) (after : List ℕ) → result ≡ (stored (call answers)).result
+      → after ≡ (stored (call answers)).answers → Found (stored_call items labels (level_of items levels k) entries tokens) result after
+  found_by answers r result after a b =
+      record { result = a ∙ ap (λ (c : StoredCall). (stored c).result) (call_same answers r); answers_made = b ∙ ap (λ (c : StoredCall). (stored c).answers) (call_same answers r) }

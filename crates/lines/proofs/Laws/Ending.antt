@@ -1,4 +1,7 @@
 -- At the end of the input at most one text is printed: that of the last line, or that of the end.
+use Rattle.std.proofs.Common.{Err, Ok, Result}
+use Rattle.rules.specs.declared.Counts.{Counts}
+use Rattle.rules.specs.declared.Refusal.{Refusal}
 use Prim.Native.Nat.{ℕ, ◌+◌}
 use mathlib.Core.Path.{◌≡◌, refl, sym, ap, ◌∙◌}
 use mathlib.Core.List.{List, [], ◌∷◌, ◌++◌, append-nil}
@@ -8,12 +11,10 @@ use native.Mathlib.Omega.{arith}
 use lib.Dec.{leb, ltb}
 use lib.ListN.{length}
 use lib.Seq.{sets}
-use Rattle.rules.specs.declared.Built.{Built}
-use Rattle.rules.specs.declared.Built.TheVariants.{Tables, Refused}
 use Rattle.rules.specs.Outcomes.{BuildEnd, build}
 use Rattle.format.specs.declared.Frame.{Frame}
 use Rattle.format.specs.declared.Frame.TheVariants.{Sizes, Edge, Query, Faulty}
-use Rattle.machine.specs.declared.Taken.{Taken}
+use Rattle.machine.specs.declared.Run.{Run}
 use Rattle.format.specs.Frames.{frame_of, tokens_of}
 use Rattle.machine.specs.Machine.{Stage, opening, gathering, answering, stopped, is_stopped, Turn, silent, stops, build_call, built_by, builds, on_sizes, on_edge, asked, on_query, on_frame, bad_frame, on_line, Machine, next_line, Fed, turned, end_line, last_by, last_line, ended, finish}
 use Rattle.machine.specs.Standing.{stage_of, machine_of, Steps}
@@ -28,10 +29,10 @@ unfolding silent
 chosen true s bad q = inl refl
 chosen false s bad q = q
 
-built_quiet : (items labels k : ℕ) (end : BuildEnd) (b : Built) (m : Machine) → ended m (built_by items labels k end b).stage ≡ []
+built_quiet : (items labels k : ℕ) (end : BuildEnd) (b : Result Counts Refusal) (m : Machine) → ended m (built_by items labels k end b).stage ≡ []
 unfolding built_by stops ended
-built_quiet items labels k end (Tables classes pairs entries) m = refl
-built_quiet items labels k end (Refused r) m = refl
+built_quiet items labels k end (Ok n) m = refl
+built_quiet items labels k end (Err r) m = refl
 
 sizes_quiet : (bad : Turn) → Quiet bad → (items labels k : ℕ) (s : Stage) → Quiet (on_sizes bad items labels k s)
 unfolding on_sizes
@@ -87,24 +88,23 @@ line_calm : (m : Machine) → Calm (last_line m)
 unfolding last_line
 line_calm m = stop_calm (is_stopped m.stage) m (last_by m m.part) (last_calm m m.part)
 
-module _ (m : Machine) (r : Taken) (part edges levels entries old new : List ℕ) (s : Steps (last_line m) r part edges levels entries old new) where
+module _ (m : Machine) (told : ℕ) (old mid : Run) (s : Steps (last_line m) told old mid) where
   abbrev end : List ℕ
-  end = ended (machine_of r.state part edges levels entries) (stage_of r.state.progress edges levels entries)
+  end = ended (machine_of mid) (stage_of mid)
 
   -- the same end, by the machine behind the last line
   end_same : end ≡ ended (last_line m).machine (last_line m).machine.stage
-  unfolding machine_of
   end_same = ap (λ (n : Machine). ended n n.stage) s.machine
 
   -- the last line is silent, or the end is
-  one_text : Calm (last_line m) → (rest : ℕ) (last : List ℕ) → Written end rest 0 new last → Written (finish m) (r.many + rest) 0 old last
+  one_text : Calm (last_line m) → (rest : ℕ) (last : List ℕ) → Written end rest 0 mid.out last → Written (finish m) (told + rest) 0 old.out last
   unfolding finish
   one_text (inl e) rest last w =
       let f : finish m ≡ end = ap (λ (l : List ℕ). l ++ ended (last_line m).machine (last_line m).machine.stage) e ∙ sym end_same in
-      let same : new ≡ old = s.text ∙ ap (sets old 0) e in
+      let same : mid.out ≡ old.out = s.text ∙ ap (sets old.out 0) e in
       record {
         size = omega (arith, s.many, ap length e, w.size, ap length f);
-        bytes = w.bytes ∙ (ap (λ (l : List ℕ). sets l 0 end) same ∙ ap (sets old 0) (sym f));
+        bytes = w.bytes ∙ (ap (λ (l : List ℕ). sets l 0 end) same ∙ ap (sets old.out 0) (sym f));
         inside = omega (arith, s.many, ap length e, w.inside, ap length same);
       }
   one_text (inr e) rest last w =
@@ -112,9 +112,9 @@ module _ (m : Machine) (r : Taken) (part edges levels entries old new : List ℕ
       let f : finish m ≡ (last_line m).text = ap (λ (l : List ℕ). (last_line m).text ++ l) e ∙ append-nil (last_line m).text in
       record {
         size = omega (arith, s.many, w.size, ap length z, ap length f);
-        bytes = w.bytes ∙ (ap (sets new 0) z ∙ (s.text ∙ ap (sets old 0) (sym f)));
+        bytes = w.bytes ∙ (ap (sets mid.out 0) z ∙ (s.text ∙ ap (sets old.out 0) (sym f)));
         inside = omega (arith, s.inside, w.size, ap length z);
       }
 
-  pub finish_told : (rest : ℕ) (last : List ℕ) → Written end rest 0 new last → Written (finish m) (r.many + rest) 0 old last
+  pub finish_told : (rest : ℕ) (last : List ℕ) → Written end rest 0 mid.out last → Written (finish m) (told + rest) 0 old.out last
   finish_told rest last w = one_text (line_calm m) rest last w

@@ -1,11 +1,11 @@
 -- The entries of all lengths, and the two ways in which they are used: written, and compared.
 use Prim.Native.Nat.{ℕ, zero, suc, ◌+◌, ◌*◌, ◌/◌, ◌≤◌, ◌<◌}
 use mathlib.Core.Path.{◌≡◌, refl, sym, ap, ◌∙◌}
-use mathlib.Core.List.{List, [], ◌∷◌, ◌++◌, append-nil, append_assoc}
+use mathlib.Core.List.{List, [], ◌++◌, append-nil, append_assoc}
 use native.Mathlib.Numerals.{add-one}
 use native.Mathlib.Omega.{arith}
 use lib.Dec.{eqb}
-use lib.ListN.{length, drop}
+use lib.ListN.{length}
 use Rattle.rules.specs.Graph.{Graph, graph_of}
 use Rattle.rules.specs.Levels.{max_of}
 use Rattle.rules.specs.Lists.{joins, code_from, entries_behind, entries_up_to, entries_of, each_up_to}
@@ -73,13 +73,6 @@ module _ (g : Graph) (k : ℕ) (t : List ℕ) where
     first = w.meets [] refl (is_difference [] s 0 (record { left = omega arith; right = omega arith; same = λ j h. absurd (native.Mathlib.Nat.not-suc-le-zero h); stops = λ h. absurd (native.Mathlib.Nat.not-suc-le-zero h) }));
   }
 
--- an empty part that comes back leaves the list as it was
-pub part_back : (e l : List ℕ) → length e ≡ 0 → e ++ drop 0 l ≡ l
-part_back [] l h = refl
-part_back (x ∷ e) l h = absurd (no h)
-  where
-    no : suc (length e) ≡ 0 → ⊥
-    no q = omega arith
-
-pub listed_as : (r : ℕ) (es a b old new : List ℕ) → a ≡ old → b ≡ new → Listed r es a b → Listed r es old new
-listed_as r es a b old new e d w = rw (← e, ← d) w
+-- the list is known by another name
+pub listed_to : (r : ℕ) (es old : List ℕ) {b new : List ℕ} → new ≡ b → Listed r es old b → Listed r es old new
+listed_to r es old d w = rw d w

@@ -1,4 +1,7 @@
 -- The scanner of lines takes exactly the inputs of the form, and each stage that it comes to leads on to an end.
+use Rattle.std.proofs.Common.{Err, Ok, Result}
+use Rattle.rules.specs.declared.Counts.{Counts}
+use Rattle.rules.specs.declared.Refusal.{Refusal}
 use Prim.Native.Nat.{ℕ, ◌*◌, ◌≤◌, ◌<◌}
 use mathlib.Core.Path.{◌≡◌, refl, sym, ap, ◌∙◌}
 use mathlib.Core.Logic.{◌⊎◌, inl, inr, ⊎_elim}
@@ -15,8 +18,6 @@ use Rattle.format.specs.declared.Frame.{Frame}
 use Rattle.format.specs.declared.Frame.TheVariants.{Sizes, Edge, Query, Faulty}
 use Rattle.hexa.specs.Digits.{value_of, and_digit, number_at as digits_at}
 use Rattle.format.specs.Frames.{three, fields_of, sizes_by, frame_by, frame_of}
-use Rattle.rules.specs.declared.Built.{Built}
-use Rattle.rules.specs.declared.Built.TheVariants.{Tables, Refused}
 use Rattle.rules.specs.Outcomes.{BuildEnd}
 use Rattle.machine.specs.Machine.{most_items, most_edges, most_digits, Stage, opening, gathering, answering, stopped, is_stopped, silent, stops, built_by, builds, asked, on_sizes, on_edge, on_query, on_frame, bad_frame, on_line}
 use Rattle.machine.specs.Lines.{fits, well_framed, line_turn, line_step, line_end, program}
@@ -73,10 +74,10 @@ data Ready : Stage → Type 0 where
   has_tables : {items labels : ℕ} {table entries : List ℕ} → Ready (answering items labels table entries)
   has_stopped : Ready stopped
 
-built_ready : (items labels k : ℕ) (end : BuildEnd) (r : Built) → Ready (built_by items labels k end r).stage
+built_ready : (items labels k : ℕ) (end : BuildEnd) (r : Result Counts Refusal) → Ready (built_by items labels k end r).stage
 unfolding built_by stops
-built_ready items labels k end (Tables classes pairs entries) = has_tables
-built_ready items labels k end (Refused r) = has_stopped
+built_ready items labels k end (Ok n) = has_tables
+built_ready items labels k end (Err r) = has_stopped
 
 builds_ready : (items labels k : ℕ) (edges : List ℕ) → Ready (builds items labels k edges).stage
 unfolding builds

@@ -6,9 +6,11 @@ use native.Mathlib.Omega.{arith}
 use lib.ListN.{take}
 use lib.Seq.{take-take}
 use Rattle.twins.specs.Standing.{Ready, Kept}
+use Rattle.std.specs.Prelude.{Option}
+use Rattle.numbering.proofs.Laws.Turn.{fault_kept}
 use Rattle.numbering.specs.Needs.{Numbered, Faulty}
 use Rattle.twins.specs.Skips.{Aside}
-use Rattle.twins.proofs.Laws.Areas.{edges_kept, ready_area, placed_kept}
+use Rattle.twins.proofs.Laws.Areas.{ready_area, placed_kept}
 
 module _ (n : ℕ) (w w' : List ℕ) (a : Aside n w w') where
   aside_marks : take (n * n) w' ≡ take (n * n) w
@@ -24,5 +26,5 @@ module _ (n : ℕ) (w w' : List ℕ) (a : Aside n w w') where
   pub numbered_aside : (i : ℕ) (l : List ℕ) (r : ℕ) (l' v : List ℕ) → Numbered n i l w' r l' v → Numbered n i l w r l' v
   numbered_aside i l r l' v d = record { placed = placed_kept n i l w w' r l' aside_marks d.placed; kept = kept_aside v d.kept }
 
-  pub faulty_aside : (i : ℕ) (l : List ℕ) (r : ℕ) (v : List ℕ) → Faulty n i l w' r v → Faulty n i l w r v
-  faulty_aside i l r v d = record { fault = rw (edges_kept n w w' aside_marks) at d.fault; kept = kept_aside v d.kept }
+  pub faulty_aside : (i : ℕ) (l : List ℕ) (r : Option ℕ) (v : List ℕ) → Faulty n i l w' r v → Faulty n i l w r v
+  faulty_aside i l r v d = record { fault = fault_kept n i l w w' aside_marks d.fault; kept = kept_aside v d.kept }

@@ -7,6 +7,7 @@ use mathlib.Core.Bool.{Bool, true, false}
 use native.Mathlib.Numerals.{add-one}
 use native.Mathlib.Omega.{arith}
 use lib.ListN.{length, get_or, take, drop}
+use Rattle.std.specs.Prelude.{Option, Some, None}
 use Rattle.rules.specs.Rule.{rule}
 use Rattle.rules.specs.Levels.{level_of}
 use Rattle.rules.proofs.Laws.Tests.{order}
@@ -15,7 +16,7 @@ use Rattle.twins.specs.Marks.{marked_graph}
 use Rattle.twins.specs.Chains.{word, set_word, link_of, head_of, Chains, Answer, bucket_of}
 use Rattle.twins.specs.Standing.{base, is_in, alike}
 use Rattle.numbering.specs.Needs.{Begun, Steady, Taken}
-use Rattle.numbering.proofs.Laws.Words.{length_word, word_same, word_above, word_below, take_word, drop_word}
+use Rattle.packing.proofs.Laws.Words.{length_word, word_same, word_above, word_below, take_word, drop_word}
 use Rattle.numbering.proofs.Laws.Chains.{chains_out, chains_old, chains_new}
 use Rattle.twins.proofs.Laws.Signature.{bucket_same, bucket_lt}
 use Rattle.numbering.proofs.Laws.Numbers.{next_out, next_alike, next_none}
@@ -95,22 +96,23 @@ module _ (n i : ℕ) (levels area : List ℕ) (p top : ℕ) (begun : Begun n i l
         steady = steady_refl n area;
       }
 
-  module _ (cp : is_in n i area p ≡ true) (q : ℕ) (ans : Answer (is_in n i area) (alike n i levels area) p q) where
-    pub taken_old : ((j : ℕ) → get_or area j 0 < 256) → q < p → Taken n i levels area p (get_or levels (base n i + q) 0) area
-    taken_old bytes l =
-        let f = ans.found l in
+  module _ (cp : is_in n i area p ≡ true) {r : Option ℕ} (ans : Answer (is_in n i area) (alike n i levels area) p r) where
+    pub taken_old : ((j : ℕ) → get_or area j 0 < 256) → (q : ℕ) → r ≡ Some q → Taken n i levels area p (get_or levels (base n i + q) 0) area
+    taken_old bytes q e =
+        let f = ans.found q e in
+        let l = f.0 in
         let g = marked_graph n area in
         let T = level_of n levels in
         record {
           number =
               sym (part_at levels (base n i) p q l)
-              ∙ rw begun.numbers (next_alike (is_in n i area) (alike n i levels area) (at_refl rule g i T) (at_sym rule g i T) (at_trans rule g i T) p q cp l f.0 f.1);
-          chains = chains_old (is_in n i area) (alike n i levels area) (bucket_of n i levels area) n area p ch (at_trans rule g i T) q l f.0 f.1
-              (bucket_same n i levels area bytes q p (omega arith) hp f.1);
+              ∙ rw begun.numbers (next_alike (is_in n i area) (alike n i levels area) (at_refl rule g i T) (at_sym rule g i T) (at_trans rule g i T) p q cp l f.1 f.2);
+          chains = chains_old (is_in n i area) (alike n i levels area) (bucket_of n i levels area) n area p ch (at_trans rule g i T) q l f.1 f.2
+              (bucket_same n i levels area bytes q p (omega arith) hp f.2);
           steady = steady_refl n area;
         }
 
-    pub taken_new : (b : ℕ) (area' : List ℕ) → 9 * (n * n) ≤ length area → (b ≡ bucket_of n i levels area p) × (b < n * n) → p ≤ q
+    pub taken_new : (b : ℕ) (area' : List ℕ) → 9 * (n * n) ≤ length area → (b ≡ bucket_of n i levels area p) × (b < n * n) → r ≡ None
         → area' ≡ set_word (set_word area (2 * (n * n) + 2 * p) (word area (4 * (n * n) + 2 * b))) (4 * (n * n) + 2 * b) (p + 1)
         → Taken n i levels area p (top + 1) area'
     taken_new b area' room eb l e =

@@ -15,7 +15,8 @@ use Rattle.twins.specs.Marks.{marked_graph}
 use Rattle.twins.specs.Chains.{Chains, word, head_of, key_of, bucket_of}
 use Rattle.twins.specs.Skips.{Laid}
 use Rattle.twins.specs.Standing.{Ready, Near, Kept, base, is_in, alike, near_byte}
-use Rattle.numbering.specs.Needs.{Begun, Steady, Positioned, Numbered, Passed, Faulty}
+use Rattle.numbering.specs.Needs.{Begun, Steady, Positioned, Numbered, Passed, Faulty, Fault}
+use Rattle.std.specs.Prelude.{Option}
 use Rattle.twins.proofs.Laws.Areas.{edges_kept, byte_kept, ready_area, placed_kept, take_fill, drop_fill_at, near_kept}
 use Rattle.numbering.proofs.Laws.Level.{numbers, still_ready, same_below, same_alike}
 use Rattle.numbering.proofs.Laws.Chains.{chains_start}
@@ -139,12 +140,20 @@ module _ (n i : ℕ) (l w w' w'' : List ℕ) (ready : Ready n i l w) (near : w' 
 pub ok_kept : (n i : ℕ) (l w w' : List ℕ) (p : ℕ) {b : Bool} → Steady n w w' → b ≡ level_ok rule (marked_graph n w') i (level_of n l) p → b ≡ level_ok rule (marked_graph n w) i (level_of n l) p
 ok_kept n i l w w' p s e = rw (edges_kept n w w' (steady_marks n w w' s)) at e
 
+-- a fault is found over the marks
+pub fault_kept : (n i : ℕ) (l w w' : List ℕ) {r : Option ℕ} → take (n * n) w' ≡ take (n * n) w → Fault n i l w' r → Fault n i l w r
+fault_kept n i l w w' m f =
+    record {
+      found = λ p k. let d = f.found p k in (d.0, rw (edges_kept n w w' m) at d.1);
+      none = λ k. rw (edges_kept n w w' m) at (f.none k);
+    }
+
 -- check_level, from what its parts leave
-pub level_faulty : (n i : ℕ) (l w w' : List ℕ) (r : ℕ) (v : List ℕ) → Ready n i l w → w' ≡ fill w (n * n) (n * n) (near_byte n i w) → Passed n i l w' r v → Faulty n i l w r v
+pub level_faulty : (n i : ℕ) (l w w' : List ℕ) (r : Option ℕ) (v : List ℕ) → Ready n i l w → w' ≡ fill w (n * n) (n * n) (near_byte n i w) → Passed n i l w' r v → Faulty n i l w r v
 level_faulty n i l w w' r v ready near d =
     let k = (near_kept n i w w' near ready.area_room).1 in
     let s = steady_kept n w' v d.steady in
     record {
-      fault = rw (edges_kept n w w' k.marks) at d.fault;
+      fault = fault_kept n i l w w' k.marks d.fault;
       kept = record { marks = s.marks ∙ k.marks; rest = s.rest ∙ k.rest; size = s.size ∙ k.size };
     }

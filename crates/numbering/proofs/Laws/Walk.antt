@@ -5,6 +5,7 @@ use mathlib.Core.List.{List}
 use mathlib.Core.Bool.{Bool, true, false}
 use native.Mathlib.Omega.{arith}
 use lib.ListN.{get_or}
+use Rattle.std.specs.Prelude.{Some, None}
 use Rattle.rules.specs.Rule.{rule}
 use Rattle.rules.specs.Levels.{agree, level_of}
 use Rattle.rules.proofs.Laws.Builder.{at_trans}
@@ -57,18 +58,18 @@ module _ (n i : ℕ) (levels area : List ℕ) (p b : ℕ) where
                 (rest_ahead (is_in n i area) (link_of n area) p (λ y. alike n i levels area y p) s (head_of n area b) k ah.kept (sym is_alike ∙ f) x l a);
           }
 
-      pub walk_found : r ≡ true → Answer (is_in n i area) (alike n i levels area) p (s - 1)
+      pub walk_found : r ≡ true → Answer (is_in n i area) (alike n i levels area) p (Some (s - 1))
       walk_found t =
           record {
-            found = λ h. (walk_met.is_in_lem, sym is_alike ∙ t);
-            none = λ h. absurd (omega (arith, walk_met.before));
+            found = λ q h. let e : q ≡ s - 1 = (let z : Some (s - 1) ≡ Some q = h in cc) in rw e (walk_met.before, walk_met.is_in_lem, sym is_alike ∙ t);
+            none = λ h. absurd (let z : Some (s - 1) ≡ None = h in cc);
           }
 
   pub walk_none : {s : ℕ} → Chains (is_in n i area) (alike n i levels area) (bucket_of n i levels area) n area p → p < n * n → b ≡ bucket_of n i levels area p
-      → ((q : ℕ) → get_or area q 0 < 256) → Ahead n i levels area p b s → s ≡ 0 → Answer (is_in n i area) (alike n i levels area) p p
+      → ((q : ℕ) → get_or area q 0 < 256) → Ahead n i levels area p b s → s ≡ 0 → Answer (is_in n i area) (alike n i levels area) p None
   walk_none {s} ch hp eb bytes ah z =
       record {
-        found = λ h. absurd (omega arith);
+        found = λ q h. absurd (let z : None ≡ Some q = h in cc);
         none = λ h. answer_none (is_in n i area) (alike n i levels area) (bucket_of n i levels area) n area p ch
             (at_trans rule (marked_graph n area) i (level_of n levels))
             (λ q l a. bucket_same n i levels area bytes q p (omega arith) hp a) s z

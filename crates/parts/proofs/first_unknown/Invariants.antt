@@ -1,14 +1,8 @@
 -- The invariant: the first i symbols are known. An unknown one at i, 0 or above 16, is then the first.
-use Prim.Native.Nat.{◌-◌, ◌≤◌}
-use mathlib.Core.Path.{◌≡◌}
-use mathlib.Core.Bool.{false}
-use lib.ListN.{length}
+use Rattle.std.proofs.Common.{◌≡◌, false}
 use Rattle.rules.specs.Finite.{any_below}
 use Rattle.parts.specs.Parts.{is_unknown}
 use Rattle.parts.proofs.first_unknown.Given as goal
 
 abbrev pub invariant-loop-i : goal.invariant-loop-i
-invariant-loop-i l = (l.i ≤ length l.symbols) × (any_below l.i (is_unknown l.symbols) ≡ false)
-
-abbrev pub decreases-loop-i : goal.decreases-loop-i
-decreases-loop-i l = length l.symbols - l.i
+invariant-loop-i l = any_below l.i (is_unknown l.symbols) ≡ false

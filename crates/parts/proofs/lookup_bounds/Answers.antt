@@ -8,13 +8,13 @@ use Rattle.parts.proofs.lookup_bounds.Goals as goal
 pub returns-then-symbols-gt4 : goal.returns-then-symbols-gt4
 returns-then-symbols-gt4 c = record { bounds = lookup_long _ _ c.if-symbols-gt4.true }
 
-pub returns-then-bad-symbols : goal.returns-then-bad-symbols
-returns-then-bad-symbols c = record { bounds = lookup_unknown _ _ c.if-symbols-gt4.false _ c.first_unknown-bad.ensures c.if-bad-symbols.true }
+pub returns-in-Some : goal.returns-in-Some
+returns-in-Some c = record { bounds = lookup_unknown _ _ c.if-symbols-gt4.false _ c.in-Some.ensures.0 c.in-Some.ensures.1 }
 
 pub returns : goal.returns
 returns c =
     record {
       bounds = c.run_bounds.ensures
           ∙ ap (run_bounds _) c.code_of.ensures
-          ∙ sym (lookup_known _ _ c.if-symbols-gt4.false (omega (arith, c.if-bad-symbols.false, c.first_unknown-bad.ensures)));
+          ∙ sym (lookup_known _ _ c.if-symbols-gt4.false (omega (arith, c.in_default.ensures)));
     }

@@ -1,4 +1,5 @@
 -- Build's order of refusals is check's, and then room for order and starts.
+use Rattle.std.proofs.Common.{Result, Err}
 use Prim.Native.Nat.{ℕ, suc, ◌+◌, ◌*◌}
 use mathlib.Core.Path.{◌≡◌, refl, ap, ◌∙◌}
 use native.Mathlib.Numerals.{add-one}
@@ -7,10 +8,7 @@ use lib.ListN.{length}
 use Rattle.rules.specs.declared.Refusal.{Refusal}
 use Rattle.rules.specs.declared.Refusal.TheVariants.{Room}
 use Rattle.rules.specs.Verdict.{Verdict, good, refuse, ◌or_else◌, when, sizes, level_count, edge_count, edges_fit, room}
-use Rattle.rules.specs.Outcomes.{BuildCall, build_refusal, CheckCall, check_refusal}
-use Rattle.refusals.specs.declared.links.Link.{Link}
-use Rattle.refusals.specs.declared.links.Link.TheVariants.{Refused}
-use Rattle.refusals.specs.Links.{link_of}
+use Rattle.rules.specs.Outcomes.{told, BuildCall, build_refusal, CheckCall, check_refusal}
 use Rattle.rules.specs.Calls.{check_call}
 use Rattle.refusals.proofs.Laws.Links.{chain_on, chain_end}
 
@@ -42,21 +40,21 @@ module _ (c : BuildCall) where
       ∙ ap (λ (v : Verdict). e or_else v) (or_assoc f (a or_else l) rooms
       ∙ ap (λ (v : Verdict). f or_else v) (or_assoc a l rooms))))
 
-  pub order_end : (l : Link) (r : Refusal) → l ≡ link_of (check_refusal as_check) → l ≡ Refused r → l ≡ link_of (build_refusal c)
-  order_end l r e g = chain_end (check_refusal as_check) rooms r e g ∙ ap link_of build_order
+  pub order_end : (l : Result Unit Refusal) (r : Refusal) → Err r ≡ told (check_refusal as_check) → l ≡ Err r → l ≡ told (build_refusal c)
+  order_end l r e g = chain_end (check_refusal as_check) rooms r e g ∙ ap told build_order
 
   module _ (passed : check_refusal as_check ≡ good) where
-    pub order_short : (l : Link) (r : Refusal) (needed : ℕ) → needed ≡ c.items * c.items → l ≡ link_of (when (ltb (length c.order) needed) Room) → l ≡ Refused r
-        → l ≡ link_of (build_refusal c)
+    pub order_short : (l : Result Unit Refusal) (r : Refusal) (needed : ℕ) → needed ≡ c.items * c.items → Err r ≡ told (when (ltb (length c.order) needed) Room) → l ≡ Err r
+        → l ≡ told (build_refusal c)
     unfolding room
     order_short l r needed q e g =
         chain_on (check_refusal as_check) rooms passed (chain_end (room c.order (c.items * c.items)) (room c.starts (suc (c.items * c.items))) r (rw q at e) g)
-        ∙ ap link_of build_order
+        ∙ ap told build_order
 
-    pub order_last : (l : Link) (needed : ℕ) → needed ≡ c.items * c.items → room c.order (c.items * c.items) ≡ good
-        → l ≡ link_of (when (ltb (length c.starts) (needed + 1)) Room) → l ≡ link_of (build_refusal c)
+    pub order_last : (l : Result Unit Refusal) (needed : ℕ) → needed ≡ c.items * c.items → room c.order (c.items * c.items) ≡ good
+        → l ≡ told (when (ltb (length c.starts) (needed + 1)) Room) → l ≡ told (build_refusal c)
     unfolding room
     order_last l needed q o e =
         chain_on (check_refusal as_check) rooms passed
         (chain_on (room c.order (c.items * c.items)) (room c.starts (suc (c.items * c.items))) o (rw (add-one needed, q) at e))
-        ∙ ap link_of build_order
+        ∙ ap told build_order

@@ -1,9 +1,9 @@
 -- Demand 3, second part: once tables are accepted, for every query of diameter at most k, however long, and every class, all its pairs meet the query or none does.
+use Rattle.std.proofs.Common.{Ok}
 use Prim.Native.Nat.{ℕ, ◌*◌, ◌/◌, ◌%◌, ◌≤◌, ◌<◌}
 use mathlib.Core.Path.{◌≡◌, sym, ◌∙◌}
 use mathlib.Core.Logic.{◌↔◌}
 use lib.ListN.{get_or}
-use Rattle.rules.specs.declared.Checked.TheVariants.{Accepted}
 use Rattle.rules.specs.Graph.{graph_of}
 use Rattle.rules.specs.Rule.{rule}
 use Rattle.rules.specs.Levels.{level_of}
@@ -17,7 +17,7 @@ use Rattle.rules.proofs.Laws.AllOrNone.{all_or_none_class}
 use Rattle.rules.proofs.Theorems.Acceptance.{accepted_exactly}
 use Rattle.rules.proofs.Laws.Lawful.{rule_laws}
 
-module _ (c : CheckCall) (ok : (check c).result ≡ Accepted) where
+module _ (c : CheckCall) (ok : (check c).result ≡ Ok tt) where
   -- a and b are positions of one class of the stored level-k table
   pub all_or_none : (q : Query) → WellFormed c.index.labels q → diameter q ≤ c.index.k
       → (class : ℕ) → 0 < class → (a b : ℕ) → a < c.index.items * c.index.items → b < c.index.items * c.index.items

@@ -1,4 +1,6 @@
 -- Demand 3, last part: what our builder writes, cut to the counts that it returned, is always accepted.
+use Rattle.std.proofs.Common.{Err, Ok}
+use Rattle.rules.specs.Outcomes.{counted}
 use Prim.Native.Nat.{ℕ, suc, ◌*◌, ◌/◌, ◌%◌, ◌≤◌}
 use mathlib.Core.Path.{◌≡◌, refl, sym, ap, ◌∙◌}
 use mathlib.Core.List.{List}
@@ -9,14 +11,13 @@ use lib.Dec.{leb}
 use lib.ListN.{length, take, drop}
 use Rattle.rules.specs.declared.Refusal.{Refusal}
 use Rattle.rules.specs.declared.Refusal.TheVariants.{EntryRoom}
-use Rattle.rules.specs.declared.Built.TheVariants.{Tables, Refused as NotBuilt}
-use Rattle.rules.specs.declared.Checked.TheVariants.{Accepted}
 use Rattle.rules.specs.Graph.{Graph, graph_of}
 use Rattle.rules.specs.Rule.{rule}
 use Rattle.rules.specs.Levels.{max_of, level_of, built_levels, built_level}
 use Rattle.rules.specs.Lists.{starts_of, order_of, entries_of}
 use Rattle.rules.specs.Verdict.{Verdict, good, refuse, ◌or_else◌}
 use Rattle.rules.specs.Accept.{top_of, Conditions, built_index}
+use Rattle.rules.specs.declared.Counts.{Counts}
 use Rattle.rules.specs.Outcomes.{front, handed_over, BuildCall, BuildEnd, build_refusal, build_nothing, build_tables, index_for, build_after, build, check_refusal, check_graph, check}
 use Rattle.rules.proofs.Laws.Fronts.{front_take, front_length}
 use Rattle.rules.proofs.Laws.Links.{sizes_fit, fits_room}
@@ -28,7 +29,7 @@ use Rattle.rules.proofs.Laws.Builder.{accepted_same, builder_accepted}
 use Rattle.rules.proofs.Theorems.Acceptance.{accepted_exactly}
 use Rattle.rules.proofs.Laws.Lawful.{rule_laws}
 
-refused_tables : {C : Type 0} {r : Refusal} {a b d : ℕ} → NotBuilt r ≡ Tables a b d → C
+refused_tables : {C : Type 0} {r : Refusal} {a b d : ℕ} → Err r ≡ Ok (counted a b d) → C
 refused_tables e = let z : ◌≡◌ {A = ℕ} 0 1 = cc in absurd (omega arith)
 
 -- an entry is two numbers
@@ -37,17 +38,19 @@ rising_even (none h) = refl
 rising_even (more s h t r) = omega (arith, rising_even r)
 
 module _ (c : BuildCall) (classes pairs entries : ℕ) where
-  tables_told : (b : Bool) (x y z m : ℕ) → cond b (Tables x y z) (NotBuilt (EntryRoom m)) ≡ Tables classes pairs entries
+  tables_told : (b : Bool) (x y z m : ℕ) → cond b (Ok (counted x y z)) (Err (EntryRoom m)) ≡ Ok (counted classes pairs entries)
       → (b ≡ true) × (x ≡ classes) × (y ≡ pairs) × (z ≡ entries)
-  tables_told true x y z m e = (refl, cc, cc, cc)
+  tables_told true x y z m e =
+      let same : counted x y z ≡ counted classes pairs entries = cc in
+      (refl, ap (λ (c : Counts). c.classes) same, ap (λ (c : Counts). c.pairs) same, ap (λ (c : Counts). c.entries) same)
   tables_told false x y z m e = refused_tables e
 
-  after_good : (v : Verdict) → (build_after c v).result ≡ Tables classes pairs entries → v ≡ good
+  after_good : (v : Verdict) → (build_after c v).result ≡ Ok (counted classes pairs entries) → v ≡ good
   unfolding build_after build_nothing
   after_good good e = refl
   after_good (refuse r) e = refused_tables e
 
-  module _ (done : (build c).result ≡ Tables classes pairs entries) where
+  module _ (done : (build c).result ≡ Ok (counted classes pairs entries)) where
     abbrev g : Graph
     g = graph_of c.items c.labels c.edges
 
@@ -133,7 +136,7 @@ module _ (c : BuildCall) (classes pairs entries : ℕ) where
 
     -- the check accepts it, with any area that is large enough
     pub builder_is_accepted : (area : List ℕ) → 9 * (c.items * c.items) ≤ length area
-        → (check (record { edges = c.edges; index = handed_over c classes pairs entries; area = area })).result ≡ Accepted
+        → (check (record { edges = c.edges; index = handed_over c classes pairs entries; area = area })).result ≡ Ok tt
     unfolding graph_of check_graph handed_over
     builder_is_accepted area h =
         (accepted_exactly (record { edges = c.edges; index = handed_over c classes pairs entries; area = area })).1 (past_five area h, conditions)

@@ -1,11 +1,11 @@
 -- Demand 3 for class answers: once tables are accepted, a query of diameter at most k gets exactly the classes all of whose pairs meet it.
+use Rattle.std.proofs.Common.{Ok}
 use Prim.Native.Nat.{ℕ, ◌*◌, ◌/◌, ◌%◌, ◌≤◌, ◌<◌}
 use mathlib.Core.Path.{◌≡◌, sym, ap, ◌∙◌, subst}
 use mathlib.Core.Logic.{◌↔◌}
 use mathlib.Core.List.{List, Memᴰ}
 use lib.ListN.{get_or, take}
 use lib.Seq.{get_or-take}
-use Rattle.rules.specs.declared.Checked.TheVariants.{Accepted}
 use Rattle.rules.specs.Graph.{graph_of}
 use Rattle.rules.specs.Query.{Query, diameter}
 use Rattle.rules.specs.Stored.{class_answer}
@@ -26,7 +26,7 @@ pub record MeetsWholly (c : CheckCall) (q : Query) (class : ℕ) : Type 0 where
   pub all : (p : ℕ) → p < c.index.items * c.index.items → get_or (top_of c.index) p 0 ≡ class
       → Meets (check_graph c) q (p / c.index.items) (p % c.index.items)
 
-module _ (c : CheckCall) (ok : (check c).result ≡ Accepted) (table : List ℕ) (front : take (c.index.items * c.index.items) table ≡ top_of c.index)
+module _ (c : CheckCall) (ok : (check c).result ≡ Ok tt) (table : List ℕ) (front : take (c.index.items * c.index.items) table ≡ top_of c.index)
     (q : Query) (formed : WellFormed c.index.labels q) (short : diameter q ≤ c.index.k) where
   same_number : (p : ℕ) → p < c.index.items * c.index.items → get_or (top_of c.index) p 0 ≡ get_or table p 0
   same_number p h = ap (λ (t : List ℕ). get_or t p 0) (sym front) ∙ get_or-take (c.index.items * c.index.items) table p 0 h

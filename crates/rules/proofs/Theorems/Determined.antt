@@ -1,8 +1,10 @@
 -- Each entry's promise determines everything: two ends of one call, the result and every lent buffer, are equal.
+use Rattle.std.proofs.Common.{Result}
+use Rattle.rules.specs.declared.Part.{Part}
+use Rattle.rules.specs.declared.Refusal.{Refusal}
 use Prim.Native.Nat.{ℕ}
 use mathlib.Core.Path.{◌≡◌, refl, sym, ◌∙◌}
 use mathlib.Core.List.{List}
-use Rattle.rules.specs.declared.Bounds.{Bounds}
 use Rattle.rules.specs.Outcomes.{BuildCall, BuildEnd, build, CheckCall, CheckEnd, check, AnswerEnd, DirectCall, direct, StoredCall, stored, ClassCall, class}
 use Rattle.rules.specs.Promises.{Builds, Checks, Ends, AnswersDirectly, AnswersStored, AnswersClasses, GivesPairs, HandsPairs, LooksUp, HandsEntries}
 
@@ -37,14 +39,14 @@ pub class_determined : (c : ClassCall) (e f : AnswerEnd) → AnswersClasses c e 
 class_determined c e f p q = answer_end (class c) e p ∙ sym (answer_end (class c) f q)
 
 -- pairs of a class: number and bounds, and the part
-pub pairs_determined : (c : ℕ) (starts order : List ℕ) (r s : Bounds) → GivesPairs c starts order r → GivesPairs c starts order s → r ≡ s
+pub pairs_determined : (c : ℕ) (starts order : List ℕ) (r s : Result Part Refusal) → GivesPairs c starts order r → GivesPairs c starts order s → r ≡ s
 pairs_determined c starts order r s p q = p.bounds ∙ sym q.bounds
 
 pub pairs_part_determined : (c : ℕ) (starts order a b : List ℕ) → HandsPairs c starts order a → HandsPairs c starts order b → a ≡ b
 pairs_part_determined c starts order a b p q = p.numbers ∙ sym q.numbers
 
 -- sequence lookup: number and bounds, and the part
-pub lookup_determined : (symbols entries : List ℕ) (r s : Bounds) → LooksUp symbols entries r → LooksUp symbols entries s → r ≡ s
+pub lookup_determined : (symbols entries : List ℕ) (r s : Result Part Refusal) → LooksUp symbols entries r → LooksUp symbols entries s → r ≡ s
 lookup_determined symbols entries r s p q = p.bounds ∙ sym q.bounds
 
 pub lookup_part_determined : (symbols entries a b : List ℕ) → HandsEntries symbols entries a → HandsEntries symbols entries b → a ≡ b

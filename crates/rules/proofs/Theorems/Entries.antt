@@ -1,4 +1,5 @@
 -- Sequence to class: the entry list holds exactly the code and class of each sequence of at most k symbols and each class whose pairs it joins, strictly ascending by code, then class.
+use Rattle.std.proofs.Common.{Ok}
 use Prim.Native.Nat.{ℕ, suc, ◌*◌, ◌/◌, ◌≤◌, ◌<◌}
 use mathlib.Core.Path.{◌≡◌, refl, ap, subst}
 use mathlib.Core.Logic.{◌↔◌, ◌⊎◌, inl, inr, ⊎_elim}
@@ -8,7 +9,6 @@ use native.Mathlib.Nat.{eq-or-lt_of_le}
 use native.Mathlib.Omega.{arith}
 use borrow.Author.Tests.{eqb-true, eq-eqb}
 use lib.ListN.{length}
-use Rattle.rules.specs.declared.Checked.TheVariants.{Accepted}
 use Rattle.rules.specs.Graph.{Graph, leads, graph_of}
 use Rattle.rules.specs.Rule.{rule}
 use Rattle.rules.specs.Levels.{number_at, max_of, level_of}
@@ -69,7 +69,7 @@ module _ (g : Graph) (k : ℕ) (t : List ℕ) (few : g.labels ≤ 8) where
       (eq-or-lt_of_le (rising_order r i j (omega arith) h))
 
 -- on accepted tables a sequence joins all pairs of a class or none, so that the first pair stands for the class
-pub class_joined : (c : CheckCall) → (check c).result ≡ Accepted → (symbols : List ℕ) → Symbols c.index.labels symbols → length symbols ≤ c.index.k
+pub class_joined : (c : CheckCall) → (check c).result ≡ Ok tt → (symbols : List ℕ) → Symbols c.index.labels symbols → length symbols ≤ c.index.k
     → (v u : ℕ) → v < c.index.items → u < c.index.items → 0 < number_at c.index.items (top_of c.index) v u
     → joins_class (check_graph c) (top_of c.index) symbols (number_at c.index.items (top_of c.index) v u) ≡ joins (check_graph c) symbols v u
 unfolding check_graph graph_of top_of

@@ -1,12 +1,12 @@
 -- P1 to P12 of document 01, as one list, over the outcomes of the entries: each holds by computation. The index of the document is computed once.
+use Rattle.std.proofs.Common.{Err, Ok}
+use Rattle.rules.specs.Outcomes.{counted}
 use Prim.Native.Nat.{ℕ}
 use mathlib.Core.Path.{◌≡◌, refl, ap, ◌∙◌}
 use mathlib.Core.List.{List, [], ◌∷◌, ◌++◌}
 use lib.ListN.{length, take, drop, replicate}
 use Rattle.rules.specs.declared.Refusal.{Refusal}
 use Rattle.rules.specs.declared.Refusal.TheVariants.{EntryRoom, Unknown, FewOperands, OperandsLeft, TooLong}
-use Rattle.rules.specs.declared.Built.TheVariants.{Tables, Refused as NotBuilt}
-use Rattle.rules.specs.declared.Answered.TheVariants.{Answers, Refused as NotAnswered}
 use Rattle.rules.specs.Finite.{any_below, all_below, first_below, list_below, table_below}
 use Rattle.rules.specs.Graph.{edge_is, has_edge, graph_of, leads, adjacent, connected}
 use Rattle.rules.specs.Rule.{rule}
@@ -74,17 +74,17 @@ asking_nothing = record { items = 0; labels = 1; edges = []; tokens = 0 ∷ []; 
 
 -- an answer list, numbers past it unchanged
 abbrev answered : List ℕ → List ℕ → AnswerEnd
-answered list rest = record { result = Answers (length list); answers = list ++ rest; area = lent 144 0 }
+answered list rest = record { result = Ok (length list); answers = list ++ rest; area = lent 144 0 }
 
 -- refused before any work
 abbrev refused : Refusal → AnswerEnd
-refused r = record { result = NotAnswered r; answers = lent 5 7; area = lent 144 7 }
+refused r = record { result = Err r; answers = lent 5 7; area = lent 144 7 }
 
 -- 6: the need; levels, starts, order and area as for 0, entries unchanged
 abbrev short : ℕ → BuildEnd
 short room =
     record {
-      result = NotBuilt (EntryRoom 14);
+      result = Err (EntryRoom 14);
       levels = level1 ++ level2;
       starts = starts ++ lent 6 7;
       order = order;
@@ -99,7 +99,7 @@ pub record Examples : Type 0 where
   pub P3 : (build (building 28)).starts ≡ starts ++ lent 6 7
   pub P4 : (build (building 28)).order ≡ order
   pub P5 : (build (building 28)).entries ≡ entries
-  pub P5_counts : (build (building 28)).result ≡ Tables 10 16 14
+  pub P5_counts : (build (building 28)).result ≡ Ok (counted 10 16 14)
   pub P6 : direct (asking (1 ∷ 2 ∷ 32 ∷ [])) ≡ answered (0 ∷ 1 ∷ 4 ∷ 5 ∷ []) (lent 1 7)
   pub P7 : direct (asking (1 ∷ 2 ∷ 32 ∷ 1 ∷ 32 ∷ [])) ≡ answered (2 ∷ 6 ∷ []) (lent 3 7)
   pub P7_classes : class (asking_classes (1 ∷ 2 ∷ 32 ∷ 1 ∷ 32 ∷ [])) ≡ refused TooLong
@@ -108,8 +108,8 @@ pub record Examples : Type 0 where
   pub P10 : direct (asking (1 ∷ 2 ∷ [])) ≡ refused OperandsLeft
   pub P11 : build (building 26) ≡ short 26
   pub P11_odd : build (building 27) ≡ short 27
-  pub P12 : build nothing ≡ record { result = Tables 0 0 0; levels = []; starts = 0 ∷ []; order = []; entries = []; area = [] }
-  pub P12_identity : direct asking_nothing ≡ record { result = Answers 0; answers = []; area = [] }
+  pub P12 : build nothing ≡ record { result = Ok (counted 0 0 0); levels = []; starts = 0 ∷ []; order = []; entries = []; area = [] }
+  pub P12_identity : direct asking_nothing ≡ record { result = Ok 0; answers = []; area = [] }
 
 -- the index of the document's table, computed once for all the examples that build it
 abbrev index : Index
@@ -125,7 +125,7 @@ unfolding build build_after
 tables room e = ap (build_after (building room)) e ∙ ap (build_tables (building room)) (built room)
 
 -- no items
-empty : build nothing ≡ record { result = Tables 0 0 0; levels = []; starts = 0 ∷ []; order = []; entries = []; area = [] }
+empty : build nothing ≡ record { result = Ok (counted 0 0 0); levels = []; starts = 0 ∷ []; order = []; entries = []; area = [] }
 unfolding build build_refusal build_after build_tables index_for built_index top_of front zeroed ◌or_else◌ when sizes level_count edge_count edges_fit first_bad room first_below table_below graph_of max_of numbering level_of stack level_over built_levels built_level order_up_to starts_up_to entries_for each_up_to entries_behind entries_up_to starts_of order_of entries_of
 empty = refl
 

@@ -1,10 +1,12 @@
 -- The limits: for each number of the refusal table the last input that is let through and the first that is refused. Each holds by computation.
+use Rattle.std.proofs.Common.{Err, Ok}
+use Rattle.rules.specs.Outcomes.{span}
 use mathlib.Core.Path.{◌≡◌, refl}
 use mathlib.Core.Bool.{true, false}
 use mathlib.Core.List.{[], ◌∷◌}
 use lib.ListN.{replicate}
+use Rattle.rules.specs.declared.ClassList.TheVariants.{Starts}
 use Rattle.rules.specs.declared.Refusal.TheVariants.{Sizes, LevelCount, EdgeCount, Edge, Room, Unknown, TooLong, NoClass, ListFault}
-use Rattle.rules.specs.declared.Bounds.TheVariants.{Part, Refused as NoPart}
 use Rattle.rules.specs.Finite.{any_below, all_below, first_below}
 use Rattle.rules.specs.Graph.{edge_is, has_edge, graph_of, leads, adjacent, connected}
 use Rattle.rules.specs.Rule.{rule}
@@ -45,14 +47,14 @@ pub record Limits : Type 0 where
   pub symbol_17 : known_symbols (17 ∷ []) ≡ refuse (Unknown 0)
   pub symbols_4 : few_symbols (1 ∷ 1 ∷ 1 ∷ 1 ∷ []) ≡ good
   pub symbols_5 : few_symbols (1 ∷ 1 ∷ 1 ∷ 1 ∷ 1 ∷ []) ≡ refuse TooLong
-  pub lone_number : lookup_bounds (1 ∷ []) (1 ∷ 5 ∷ 1 ∷ []) ≡ Part 0 2
+  pub lone_number : lookup_bounds (1 ∷ []) (1 ∷ 5 ∷ 1 ∷ []) ≡ Ok (span 0 2)
   -- 14
-  pub class_0 : class_bounds 0 (0 ∷ 1 ∷ []) (7 ∷ []) ≡ NoPart NoClass
-  pub class_1 : class_bounds 1 (0 ∷ 1 ∷ []) (7 ∷ []) ≡ Part 0 1
-  pub class_empty : class_bounds 1 (1 ∷ 1 ∷ []) (7 ∷ []) ≡ Part 1 1
-  pub no_place : class_bounds 1 (0 ∷ []) (7 ∷ []) ≡ NoPart NoClass
-  pub out_of_order : class_bounds 1 (1 ∷ 0 ∷ []) (7 ∷ []) ≡ NoPart NoClass
-  pub past_order : class_bounds 1 (0 ∷ 2 ∷ []) (7 ∷ []) ≡ NoPart NoClass
+  pub class_0 : class_bounds 0 (0 ∷ 1 ∷ []) (7 ∷ []) ≡ Err NoClass
+  pub class_1 : class_bounds 1 (0 ∷ 1 ∷ []) (7 ∷ []) ≡ Ok (span 0 1)
+  pub class_empty : class_bounds 1 (1 ∷ 1 ∷ []) (7 ∷ []) ≡ Ok (span 1 1)
+  pub no_place : class_bounds 1 (0 ∷ []) (7 ∷ []) ≡ Err NoClass
+  pub out_of_order : class_bounds 1 (1 ∷ 0 ∷ []) (7 ∷ []) ≡ Err NoClass
+  pub past_order : class_bounds 1 (0 ∷ 2 ∷ []) (7 ∷ []) ≡ Err NoClass
   -- 15, on two items without an edge: 0 though connected, not 0 though not connected, two above the largest before
   pub level_right : level_ok rule (graph_of 2 1 []) 1 (level_of 2 (1 ∷ 0 ∷ 0 ∷ 2 ∷ [])) 3 ≡ true
   pub zero_though_connected : level_ok rule (graph_of 2 1 []) 1 (level_of 2 (1 ∷ 0 ∷ 0 ∷ 0 ∷ [])) 3 ≡ false
@@ -61,8 +63,8 @@ pub record Limits : Type 0 where
   -- A: (0,0) of an item with a loop is no (0,1), whose step is the same
   pub ends_differ : agree rule (graph_of 2 1 (0 ∷ 0 ∷ 0 ∷ 1 ∷ 0 ∷ 0 ∷ 0 ∷ 1 ∷ 0 ∷ [])) 1 (level_of 2 []) 0 0 0 1 ≡ false
   -- 16: the first difference, or the shorter length
-  pub list_shorter : same_list (0 ∷ 1 ∷ []) (0 ∷ []) (ListFault 1) ≡ refuse (ListFault 1 1)
-  pub list_longer : same_list (0 ∷ []) (0 ∷ 1 ∷ []) (ListFault 1) ≡ refuse (ListFault 1 1)
+  pub list_shorter : same_list (0 ∷ 1 ∷ []) (0 ∷ []) (ListFault Starts) ≡ refuse (ListFault Starts 1)
+  pub list_longer : same_list (0 ∷ []) (0 ∷ 1 ∷ []) (ListFault Starts) ≡ refuse (ListFault Starts 1)
   -- a list written at the front leaves what stands behind it
   pub behind_unchanged : front (1 ∷ []) (7 ∷ 8 ∷ []) ≡ (1 ∷ 8 ∷ [])
 

@@ -1,4 +1,6 @@
 -- Class to pair, for any level-k table: the part of the order list that the starts list gives for a class is exactly its pairs, ascending.
+use Rattle.std.proofs.Common.{Ok}
+use Rattle.rules.specs.Outcomes.{span}
 use Prim.Native.Nat.{ℕ, zero, suc, ◌≤◌, ◌<◌}
 use mathlib.Core.Path.{◌≡◌, refl, ap, ◌∙◌}
 use mathlib.Core.Logic.{◌↔◌}
@@ -7,7 +9,6 @@ use native.Mathlib.Omega.{arith}
 use borrow.Author.Tests.{eqb-true, eq-eqb, ne_eqb, lt-leb, le-ltb}
 use lib.Dec.{eqb}
 use lib.ListN.{length, get_or, length-append}
-use Rattle.rules.specs.declared.Bounds.TheVariants.{Part}
 use Rattle.rules.specs.Levels.{max_of}
 use Rattle.rules.specs.Lists.{pairs_of, order_up_to, starts_of, order_of}
 use Rattle.rules.specs.Outcomes.{part_of, class_bounds}
@@ -55,12 +56,12 @@ module _ (t : List ℕ) (c : ℕ) (h : suc c ≤ max_of t) where
       let r = order_begins t (max_of t) (suc c) h in
       omega (arith, starts_at t (max_of t) (suc c) h, ap length r.1, length-append (order_up_to t (suc c)) r.0)
 
-  bounds_are : class_bounds (suc c) (starts_of t) (order_of t) ≡ Part from to
+  bounds_are : class_bounds (suc c) (starts_of t) (order_of t) ≡ Ok (span from to)
   unfolding class_bounds
   bounds_are =
       rw (ne_eqb (suc c) 0 (λ q. omega arith), lt-leb (length (starts_of t)) (suc c) (omega (arith, starts_many t)), le-ltb to from up_to, le-ltb (length (order_of t)) to within) refl
 
-  part_is : part_of (order_of t) (Part from to) ≡ pairs_of t (suc c)
+  part_is : part_of (order_of t) (Ok (span from to)) ≡ pairs_of t (suc c)
   unfolding part_of starts_of order_of
   part_is = order_part t (max_of t) c h
 

@@ -1,4 +1,5 @@
 -- Demand 3, third part: once tables are accepted, any query gets from them, with the same room and area, what the edge table gives: result, answers and area, refusals included.
+use Rattle.std.proofs.Common.{Ok}
 use Prim.Native.Nat.{ℕ, ◌+◌, ◌*◌, ◌≤◌, ◌<◌}
 use mathlib.Core.Path.{◌≡◌, refl, sym, ap, ◌∙◌, subst}
 use mathlib.Core.List.{List}
@@ -7,7 +8,6 @@ use native.Mathlib.Omega.{arith}
 use lib.Dec.{ltb}
 use lib.ListN.{length, take, length-take}
 use lib.Seq.{get_or-take}
-use Rattle.rules.specs.declared.Checked.TheVariants.{Accepted}
 use Rattle.rules.specs.Graph.{Graph, graph_of}
 use Rattle.rules.specs.Rule.{rule}
 use Rattle.rules.specs.Query.{Query}
@@ -42,7 +42,7 @@ or_else_end good = refl
 or_else_end (refuse r) = refl
 
 -- accepted tables are sound, also where the level-k table is lent with more behind it
-pub accepted_tables_sound : (c : CheckCall) → (check c).result ≡ Accepted → (table : List ℕ) → take (c.index.items * c.index.items) table ≡ top_of c.index
+pub accepted_tables_sound : (c : CheckCall) → (check c).result ≡ Ok tt → (table : List ℕ) → take (c.index.items * c.index.items) table ≡ top_of c.index
     → Sound (check_graph c) table c.index.entries
 unfolding check_graph graph_of top_of
 accepted_tables_sound c ok table front =
@@ -62,7 +62,7 @@ unfolding well_read ◌or_else◌ answer_after
 answer_same items xs ys answers area v (asks q) h = ap (λ (l : List ℕ). answer_after items l answers area v) (h q refl)
 answer_same items xs ys answers area v (fault r) h = refl
 
-module _ (c : CheckCall) (ok : (check c).result ≡ Accepted) (table : List ℕ) (front : take (c.index.items * c.index.items) table ≡ top_of c.index)
+module _ (c : CheckCall) (ok : (check c).result ≡ Ok tt) (table : List ℕ) (front : take (c.index.items * c.index.items) table ≡ top_of c.index)
     (tokens answers area : List ℕ) where
   abbrev from_edges_lem : DirectCall
   from_edges_lem = record { items = c.index.items; labels = c.index.labels; edges = c.edges; tokens = tokens; answers = answers; area = area }

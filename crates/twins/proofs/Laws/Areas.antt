@@ -1,10 +1,14 @@
 -- What stores in the area leave alone.
 use Prim.Native.Nat.{ℕ, zero, suc, ◌+◌, ◌*◌, ◌≤◌, ◌<◌}
 use mathlib.Core.Path.{◌≡◌, refl, sym, ap, ◌∙◌, fun_ext}
-use mathlib.Core.List.{List}
+use mathlib.Core.List.{List, ◌++◌}
+use native.Mathlib.Nat.{zero-add}
 use native.Mathlib.Omega.{arith}
-use lib.ListN.{length, get_or, take, drop}
-use lib.Seq.{drop-set-lt, take-set-le}
+use native.Mathlib.Numerals.{add-one}
+use lib.ListN.{length, get_or, set, take, drop, replicate}
+use lib.Seq.{drop-set-lt, take-set-le, length-take-le, drop-drop, paste}
+use Rattle.std.proofs.lemmas.List.Edits.{paste_none, paste_all, fill_from_more}
+use Rattle.std.proofs.lemmas.List.{length-replicate}
 use Rattle.rules.specs.Writing.{fill}
 use Rattle.rules.proofs.Laws.Writing.{get_or_fill_front, get_or_fill_in, length_fill}
 use Rattle.twins.specs.Marks.{bit_at, marked_edge}
@@ -14,6 +18,23 @@ pub drop_fill_at : (m : ℕ) (w : List ℕ) (b k : ℕ) (f : ℕ → ℕ) → b 
 unfolding fill
 drop_fill_at m w b zero f h = refl
 drop_fill_at m w b (suc k) f h = drop-set-lt m (fill w b k f) (b + k) (f k) (omega arith) ∙ drop_fill_at m w b k f (omega arith)
+
+-- the library's fill of a part with zeros: what a loop over the part would write
+zeros_paste : (w : List ℕ) (b k : ℕ) → b + k ≤ length w → paste w b (replicate k 0) k ≡ fill w b k (λ _. 0)
+unfolding fill
+zeros_paste w b zero h = sym (paste_none w b (replicate 0 0))
+zeros_paste w b (suc k) h =
+    let e = fill_from_more w b k 0 (omega arith) in
+    sym (simp add-one at e) ∙ ap (λ (z : List ℕ). set z (b + k) 0) (zeros_paste w b k (omega arith))
+
+zeros_at : (w : List ℕ) (b k : ℕ) (s : List ℕ) {z : ℕ} → b + k ≤ length w → z ≡ k → s ≡ replicate z 0 → take b w ++ (s ++ drop (b + k) w) ≡ fill w b k (λ _. 0)
+zeros_at w b k s h d e = rw (e, d) (sym (paste_all w b (replicate k 0) k (sym (length-replicate k 0))) ∙ zeros_paste w b k h)
+
+pub zeros_mid : (w : List ℕ) (b k : ℕ) (s : List ℕ) {z : ℕ} → b + k ≤ length w → z ≡ k → s ≡ replicate z 0 → take b w ++ (s ++ drop k (drop b w)) ≡ fill w b k (λ _. 0)
+zeros_mid w b k s h d e = rw (drop-drop k b w) (zeros_at w b k s h d e)
+
+pub zeros_front : (w : List ℕ) (k : ℕ) (s : List ℕ) → k ≤ length w → s ≡ replicate (length (take k w)) 0 → s ++ drop k w ≡ fill w 0 k (λ _. 0)
+zeros_front w k s h e = rw zero-add at (zeros_at w 0 k s (omega arith) (length-take-le k w h) e)
 
 pub cleared : (n : ℕ) (w w' : List ℕ) → w' ≡ fill w 0 (n * n) (λ _. 0) → n * n ≤ length w → Cleared n w'
 cleared n w w' e r =

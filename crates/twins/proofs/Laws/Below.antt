@@ -80,15 +80,24 @@ module _ (n i : ℕ) (levels area : List ℕ) (r : Ready n i levels area) where
       }
 
   -- the midpoints of each split can be looked for
-  pub searchable : Laid n i levels area → (c : ℕ) {count a b : ℕ} → count ≡ rule.many i → (i ≤ 4 → count ≤ 3) → c < count → a ≡ rule.first i c → b ≡ rule.second i c
-      → Searchable n levels area c a b
-  searchable k c many few l ea eb =
+  pub searchable : Laid n i levels area → (c : ℕ) {count a : ℕ} {s : List ℕ} → count ≡ rule.many i → (i ≤ 4 → count ≤ 3) → c < count → a ≡ rule.first i c → s ≡ level_of n levels a
+      → Searchable n s area c
+  searchable k c many few l ea es =
       let h = rw many at l in
-      rw (ea, eb)
+      rw (es, ea)
       (record {
         few = omega (arith, few r.short);
-        first_stands = below_stands (rule.first i c) (rule_laws.first_some i c h) (rule_laws.first_below i c h);
-        second_stands = below_stands (rule.second i c) (rule_laws.second_some i c h) (rule_laws.second_below i c h);
         small = below_small (rule.first i c) (rule_laws.first_some i c h) (rule_laws.first_below i c h);
         skips = k.skips c h;
       })
+
+  -- the levels of both halves stand
+  pub first_stands : (c : ℕ) {count a : ℕ} → count ≡ rule.many i → c < count → a ≡ rule.first i c → Stands n levels a
+  first_stands c many l ea =
+      let h = rw many at l in
+      rw ea (below_stands (rule.first i c) (rule_laws.first_some i c h) (rule_laws.first_below i c h))
+
+  pub second_stands : (c : ℕ) {count a : ℕ} → count ≡ rule.many i → c < count → a ≡ rule.second i c → Stands n levels a
+  second_stands c many l ea =
+      let h = rw many at l in
+      rw ea (below_stands (rule.second i c) (rule_laws.second_some i c h) (rule_laws.second_below i c h))

@@ -6,8 +6,8 @@ use mathlib.Core.List.{List}
 use mathlib.Core.Bool.{Bool, true, false, not, ◌&&◌}
 use native.Mathlib.Nat.{eq-or-lt_of_le}
 use native.Mathlib.Omega.{arith}
-use lib.ListN.{length, get_or, set, length-set}
-use lib.Seq.{get_or-set_same, get_or-set_other}
+use lib.ListN.{length, get_or, set, take, length-set}
+use lib.Seq.{get_or-set_same, get_or-set_other, get_or-take, length-take-le}
 use borrow.Author.Tests.{eq-eqb, ne_eqb, eqb-true, not-true, not-false}
 use Rattle.rules.specs.Finite.{any_below}
 use Rattle.rules.specs.Levels.{number_at}
@@ -16,9 +16,12 @@ use Rattle.rules.proofs.Laws.Finite.{any_find, any_here}
 use Rattle.twins.specs.Halves.{midpoint_of, Half, Listed, Halves, is_same, has_same}
 use Rattle.twins.specs.Skips.{Next}
 
--- the last of a list
-pub last_listed : (k : ℕ) (list : List ℕ) {x : ℕ} → (k ≡ 0 → ⊥) → (j : ℕ) → j + 1 ≡ k → get_or list j 0 ≡ x → Listed k list x
-last_listed k list d j e h = record { place = j; below = omega arith; is = h }
+-- what stands in the front of a list stands in the list
+pub listed_cut : (k : ℕ) (list : List ℕ) (x : ℕ) → k ≤ length list → Listed (length (take k list)) (take k list) x → Listed k list x
+listed_cut k list x h l =
+    let e = length-take-le k list h in
+    let b : l.place < k = omega (arith, l.below, e) in
+    record { place = l.place; below = b; is = sym (get_or-take k list l.place 0 b) ∙ l.is }
 
 module _ (n : ℕ) (s t : List ℕ) (c v u k : ℕ) (before : List ℕ) where
   pub halves_start : k + n ≤ length before → Halves n s t c v u 0 k before k before

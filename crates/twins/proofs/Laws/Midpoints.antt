@@ -6,8 +6,9 @@ use mathlib.Core.List.{List}
 use mathlib.Core.Bool.{Bool, true, false, not, ◌&&◌}
 use native.Mathlib.Nat.{eq-or-lt_of_le}
 use native.Mathlib.Omega.{arith}
-use lib.ListN.{length, get_or, set, length-set}
-use lib.Seq.{get_or-set_same, get_or-set_other}
+use Rattle.std.specs.Prelude.{Some, None}
+use lib.ListN.{length, get_or, take}
+use lib.Seq.{get_or-take, length-take-le}
 use borrow.Author.Tests.{not-false}
 use Rattle.rules.specs.Finite.{all_below}
 use Rattle.rules.specs.Rule.{rule}
@@ -18,7 +19,9 @@ use Rattle.rules.proofs.Laws.Tests.{same, order, and_left, and_right, and_intro}
 use Rattle.rules.proofs.Laws.Lawful.{rule_laws}
 use Rattle.twins.specs.Marks.{marked_graph}
 use Rattle.twins.specs.Standing.{Ready}
-use Rattle.twins.specs.Halves.{midpoint_of, Halves, Listing, Midpoints, Held, has_same}
+use Rattle.twins.specs.Halves.{midpoint_of, Halves, Listing, Midpoints, has_same}
+use Rattle.twins.specs.Held.{Held}
+use Rattle.twins.specs.declared.kept.Kept.{Kept}
 use Rattle.twins.proofs.Laws.Below.{below_small}
 use Rattle.twins.proofs.Laws.Halves.{find_same, found_same}
 
@@ -61,52 +64,43 @@ module _ (n i : ℕ) (levels : List ℕ) (v u : ℕ) where
         listing = rw e at ls;
       }
 
--- lists with the same first 384 places
-pub midpoints_same : (n i : ℕ) (levels : List ℕ) (v u k : ℕ) (list list' : List ℕ) → length list' ≡ length list → ((j : ℕ) → j < 384 → get_or list' j 0 ≡ get_or list j 0)
+-- a list with the same at the front
+pub midpoints_same : (n i : ℕ) (levels : List ℕ) (v u k : ℕ) (list list' : List ℕ) → k ≤ length list' → ((j : ℕ) → j < k → get_or list' j 0 ≡ get_or list j 0)
     → Midpoints n i levels v u k list → Midpoints n i levels v u k list'
 midpoints_same n i levels v u k list list' z e h =
     record {
-      few = rw z h.few;
+      few = z;
       short = h.short;
       small = h.small;
       listing = record {
         few = h.listing.few;
-        sound = λ j l. rw (e j (omega (arith, h.short))) (h.listing.sound j l);
+        sound = λ j l. rw (e j l) (h.listing.sound j l);
         complete = λ d w l g a b.
             let r = h.listing.complete d w l g a b in
-            record { place = r.place; below = r.below; is = e r.place (omega (arith, r.below, h.short)) ∙ r.is };
+            record { place = r.place; below = r.below; is = e r.place r.below ∙ r.is };
       };
     }
 
+-- the list cut to their number
+pub midpoints_cut : (n i : ℕ) (levels : List ℕ) (v u k : ℕ) (list : List ℕ) → Midpoints n i levels v u k list → Midpoints n i levels v u (length (take k list)) (take k list)
+midpoints_cut n i levels v u k list h =
+    let e : length (take k list) ≡ k = length-take-le k list h.few in
+    rw e (midpoints_same n i levels v u k list (take k list) (omega (arith, e)) (λ j l. get_or-take k list j 0 l) h)
+
 -- a list that tells nothing yet
-pub held_none : (n i : ℕ) (levels list : List ℕ) → length list ≡ 386 → get_or list 384 0 ≡ 0 → Held n i levels list
-held_none n i levels list z e = record { room = z; listed = λ q h. absurd (omega (arith, e, h)) }
+pub held_none : (n i : ℕ) (levels : List ℕ) (kept : Kept) → kept.position ≡ None → Held n i levels kept
+held_none n i levels kept e = record { listed = λ q h. absurd (let z : Some q ≡ None = sym h ∙ e in cc) }
 
 -- the list tells of p
-pub held_old : (n i : ℕ) (levels list : List ℕ) (p : ℕ) → Held n i levels list → get_or list 384 0 ≡ p + 1 → Midpoints n i levels (p / n) (p % n) (get_or list 385 0) list
-held_old n i levels list p h e = h.listed p e
-
--- the list is made to tell of p
-pub held_new : (n i : ℕ) (levels list : List ℕ) (p k : ℕ) → length list ≡ 386 → Midpoints n i levels (p / n) (p % n) k list
-    → (Midpoints n i levels (p / n) (p % n) k (set (set list 384 (p + 1)) 385 k)) × (Held n i levels (set (set list 384 (p + 1)) 385 k))
-held_new n i levels list p k z m =
-    let one = set list 384 (p + 1) in
-    let two = set one 385 k in
-    let size : length two ≡ length list = length-set one 385 k ∙ length-set list 384 (p + 1) in
-    let m' = midpoints_same n i levels (p / n) (p % n) k list two size
-    (λ j l. get_or-set_other one 385 j k 0 (λ d. omega arith) ∙ get_or-set_other list 384 j (p + 1) 0 (λ d. omega arith)) m in
-    let of : get_or two 384 0 ≡ p + 1 = get_or-set_other one 385 384 k 0 (λ d. omega arith) ∙ get_or-set_same list 384 (p + 1) 0 (omega arith) in
-    let many : get_or two 385 0 ≡ k = get_or-set_same one 385 k 0 (omega (arith, length-set list 384 (p + 1))) in (
-      m',
-      record { room = size ∙ z; listed = λ q e. let d : q ≡ p = omega (arith, e, of) in rw (d, many) m' },
-    )
+pub held_new : (n i : ℕ) (levels : List ℕ) (kept : Kept) (p : ℕ) → kept.position ≡ Some p → Midpoints n i levels (p / n) (p % n) kept.many kept.list → Held n i levels kept
+held_new n i levels kept p e m = record { listed = λ q h. let d : q ≡ p = (let z : Some q ≡ Some p = sym h ∙ e in cc) in rw d m }
 
 -- what the levels below give stays while they do
-pub held_kept : (n i : ℕ) (l l' list : List ℕ) → ((j : ℕ) → j < i → level_of n l' j ≡ level_of n l j) → Held n i l list → Held n i l' list
-held_kept n i l l' list below h = record { room = h.room; listed = λ q e. kept (q / n) (q % n) (get_or list 385 0) (h.listed q e) }
+pub held_kept : (n i : ℕ) (l l' : List ℕ) (kept : Kept) → ((j : ℕ) → j < i → level_of n l' j ≡ level_of n l j) → Held n i l kept → Held n i l' kept
+held_kept n i l l' kept below h = record { listed = λ q e. stays (q / n) (q % n) kept.many (h.listed q e) }
   where
-    kept : (v u k : ℕ) → Midpoints n i l v u k list → Midpoints n i l' v u k list
-    kept v u k m =
+    stays : (v u k : ℕ) → Midpoints n i l v u k kept.list → Midpoints n i l' v u k kept.list
+    stays v u k m =
         record {
           few = m.few;
           short = m.short;

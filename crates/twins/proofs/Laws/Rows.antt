@@ -7,6 +7,7 @@ use mathlib.Core.Bool.{Bool, true, false, not, ◌&&◌, ◌||◌, or-false}
 use native.Mathlib.Nat.{eq-zero-or-pos}
 use native.Mathlib.Omega.{arith}
 use lib.Bits.{bit_or, or_add_and, and_le_r}
+use mir.Val.{bool_byte}
 use lib.Dec.{eqb}
 use lib.ListN.{length, get_or, take}
 use borrow.Author.Tests.{eq-eqb, ne_eqb, eqb-false, not-true}
@@ -27,44 +28,25 @@ use Rattle.twins.specs.Standing.{Ready, near_byte}
 use Rattle.twins.specs.Rows.{is_mid, Empty, Reached, RowOf}
 use Rattle.twins.proofs.Laws.Areas.{take_fill, byte_kept}
 use Rattle.twins.proofs.Laws.Reach.{reach, reach_is}
-use Rattle.twins.proofs.Laws.Tables.{number_get}
 
--- the sign of a number
-pub sign_none : (x : ℕ) → x ≡ 0 → 0 ≡ one_if (not (eqb x 0))
+-- the byte of a test as the library makes it
+pub byte_told : (b : Bool) → bool_byte b ≡ one_if b
 unfolding one_if
-sign_none x e = rw (eq-eqb x 0 e) refl
-
-pub sign_some : (x : ℕ) → (x ≡ 0 → ⊥) → 1 ≡ one_if (not (eqb x 0))
-unfolding one_if
-sign_some x k = rw (ne_eqb x 0 k) refl
-
-pub one_yes : {a : Bool} (b : Bool) → a ≡ b → a ≡ true → 1 ≡ one_if b
-unfolding one_if
-one_yes b e t = rw (sym e ∙ t) refl
-
-pub one_no : {a : Bool} (b : Bool) → a ≡ b → a ≡ false → 0 ≡ one_if b
-unfolding one_if
-one_no b e t = rw (sym e ∙ t) refl
+byte_told true = refl
+byte_told false = refl
 
 one_told : (b : Bool) → not (eqb (one_if b) 0) ≡ b
 unfolding one_if
 one_told true = refl
 one_told false = refl
 
--- a number of level 1
-pub row_one : (n : ℕ) (ls : List ℕ) (m u : ℕ) → m < n → u < n → get_or ls (m * n + u) 0 ≡ number_at n (level_of n ls 1) m u
-row_one n ls m u hm hu =
-    let e : (1 - 1) * (n * n) + (m * n + u) ≡ m * n + u = omega arith in
-    sym (number_get n ls 1 m u (omega arith) hm hu ∙ ap (λ (z : ℕ). get_or ls z 0) e)
-
 -- one number more of a row that is added to
-pub add_turn : (n : ℕ) (ls row r : List ℕ) (m u : ℕ) → m < n → u < n
-    → r ≡ fill row 0 u (λ i. bit_or (get_or row i 0) (number_at n (level_of n ls 1) m i))
-    → bit_or (get_or r u 0) (get_or ls (m * n + u) 0) ≡ bit_or (get_or row u 0) (number_at n (level_of n ls 1) m u)
-add_turn n ls row r m u hm hu e =
-    let f : ℕ → ℕ = λ i. bit_or (get_or row i 0) (number_at n (level_of n ls 1) m i) in
-    ap (λ (z : ℕ). bit_or z (get_or ls (m * n + u) 0)) (ap (λ (z : List ℕ). get_or z u 0) e ∙ get_or_fill_other row 0 u f u (λ i l q. omega arith))
-    ∙ ap (λ (z : ℕ). bit_or (get_or row u 0) z) (row_one n ls m u hm hu)
+pub add_turn : (n : ℕ) (t row r : List ℕ) (m u : ℕ) → r ≡ fill row 0 u (λ i. bit_or (get_or row i 0) (number_at n t m i))
+    → bit_or (get_or r u 0) (get_or t (m * n + u) 0) ≡ bit_or (get_or row u 0) (number_at n t m u)
+unfolding number_at
+add_turn n t row r m u e =
+    let f : ℕ → ℕ = λ i. bit_or (get_or row i 0) (number_at n t m i) in
+    ap (λ (z : ℕ). bit_or z (get_or t (m * n + u) 0)) (ap (λ (z : List ℕ). get_or z u 0) e ∙ get_or_fill_other row 0 u f u (λ i l q. omega arith))
 
 or_some : (x y : ℕ) → not (eqb (bit_or x y) 0) ≡ (not (eqb x 0) || not (eqb y 0))
 or_some zero y = refl

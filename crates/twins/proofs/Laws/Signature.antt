@@ -160,6 +160,14 @@ mosts_more list j m r =
       most = most_next list 3221225472 j m.most r.most;
     }
 
+-- each is below 2^32
+hash_small : (list : List ℕ) (turn j : ℕ) → hash_at list turn j < 4294967296
+unfolding hash_at hash_of
+hash_small list turn j = mod-lt _ (omega arith)
+
+pub most_small : (list : List ℕ) (k turn : ℕ) {a : ℕ} → a ≡ most_below k (hash_at list turn) → a < 4294967296
+most_small list k turn e = omega (arith, most_bound k (hash_at list turn) 4294967295 (λ j h. omega (arith, hash_small list turn j)))
+
 -- the list of the midpoints has their largest hash
 module _ (n i : ℕ) (levels : List ℕ) (v u k : ℕ) (list : List ℕ) (hm : Midpoints n i levels v u k list) (turn : ℕ) where
   abbrev hash : ℕ → ℕ → ℕ

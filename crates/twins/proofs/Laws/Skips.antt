@@ -3,7 +3,7 @@ use Prim.Native.Nat.{ℕ, ◌+◌, ◌*◌, ◌-◌, ◌≤◌, ◌<◌}
 use mathlib.Core.Path.{◌≡◌, refl, sym, ap, ◌∙◌}
 use mathlib.Core.Logic.{⊎_elim}
 use mathlib.Core.List.{List}
-use native.Mathlib.Nat.{eq-zero-or-pos, eq-or-lt_of_le}
+use native.Mathlib.Nat.{eq-or-lt_of_le}
 use native.Mathlib.Omega.{arith}
 use lib.ListN.{length, get_or, take, drop, set, length-set}
 use lib.Seq.{get_or-set_same, get_or-set_other, get_or-take, get_or-drop, take-take, drop-drop, take-set-le, drop-set-lt}
@@ -17,24 +17,20 @@ module _ (n : ℕ) (s : List ℕ) (v : ℕ) where
   pub next_end : Next n s v n n
   next_end = record { up = omega arith; few = omega arith; zeros = λ x a b. absurd (omega arith) }
 
-  -- from one item further down
-  pub next_down : (m w : ℕ) {x r : ℕ} → 0 < m → m ≤ n → Next n s v m w → x ≡ number_at n s v (m - 1)
-      → (x ≡ 0 → r ≡ w) × ((x ≡ 0 → ⊥) → r ≡ m - 1) → Next n s v (m - 1) r
-  next_down m w {x} {r} p h d e k = ⊎_elim
-      (λ (z : x ≡ 0).
-      rw (k.0 z)
-      (record {
+  -- from one item further down, where that is not connected, and where it is
+  pub next_passed : (m w : ℕ) {x : ℕ} → Next n s v (m + 1) w → x ≡ number_at n s v m → x ≡ 0 → Next n s v m w
+  next_passed m w {x} d e z =
+      record {
         up = omega (arith, d.up);
         few = d.few;
         zeros = λ y a b. ⊎_elim
-            (λ (f : m - 1 ≡ y). rw (← f) (sym e ∙ z))
-            (λ (l : m - 1 < y). d.zeros y (omega arith) b)
+            (λ (f : m ≡ y). rw (← f) (sym e ∙ z))
+            (λ (l : m < y). d.zeros y (omega arith) b)
             (eq-or-lt_of_le a);
-      }))
-      (λ (l : 0 < x).
-      rw (k.1 (λ z. omega arith))
-      (record { up = omega arith; few = omega arith; zeros = λ y a b. absurd (omega arith) }))
-      (eq-zero-or-pos x)
+      }
+
+  pub next_here : (m : ℕ) → m < n → Next n s v m m
+  next_here m h = record { up = omega arith; few = omega arith; zeros = λ y a b. absurd (omega arith) }
 
 -- the row of v is written from item m on
 pub record From (n : ℕ) (s : List ℕ) (v m : ℕ) (area area' : List ℕ) : Type 0 where

@@ -1,15 +1,13 @@
--- The numbers of a level, and when two pairs have the same ends.
+-- The numbers of a level.
 use Prim.Native.Nat.{ℕ, zero, suc, ◌+◌, ◌*◌, ◌-◌, ◌≤◌, ◌<◌}
-use mathlib.Core.Path.{◌≡◌, refl}
+use mathlib.Core.Path.{◌≡◌, sym, ap, ◌∙◌}
 use mathlib.Core.List.{List}
-use mathlib.Core.Bool.{Bool, true, false, not, beq}
-use native.Mathlib.Nat.{suc-mul}
+use native.Mathlib.Nat.{suc-mul, mul-le-mul_right}
 use native.Mathlib.Omega.{arith}
-use lib.Dec.{eqb}
-use lib.ListN.{length, get_or}
-use borrow.Author.Tests.{eq-eqb, ne_eqb}
-use Rattle.rules.specs.Graph.{Graph}
-use Rattle.rules.specs.Levels.{number_at, level_of, same_ends}
+use lib.ListN.{length, get_or, take, drop}
+use lib.Seq.{slice}
+use Rattle.rules.specs.Levels.{number_at, level_of}
+use Rattle.rules.proofs.Laws.Slices.{pred_is, take_from}
 use Rattle.rules.proofs.Laws.Levels.{entry_get, level_get, level_size}
 
 pub less_one : (i : ℕ) → suc i - 1 ≡ i
@@ -32,19 +30,9 @@ pub level_length : (n : ℕ) (ls : List ℕ) (i : ℕ) → 0 < i → i * (n * n)
 level_length n ls zero h r = absurd (omega arith)
 level_length n ls (suc i) h r = level_size n ls i r
 
--- condition A in the two ways of the first test
-pub ends_same : (g : Graph) (v u x y : ℕ) → v ≡ u → eqb x y ≡ same_ends g v u x y
-unfolding same_ends
-ends_same g v u x y e = rw (eq-eqb v u e) (go (eqb x y))
-  where
-    go : (a : Bool) → a ≡ beq true a
-    go true = refl
-    go false = refl
-
-pub ends_apart : (g : Graph) (v u x y : ℕ) → (v ≡ u → ⊥) → not (eqb x y) ≡ same_ends g v u x y
-unfolding same_ends
-ends_apart g v u x y k = rw (ne_eqb v u k) (go (eqb x y))
-  where
-    go : (a : Bool) → not a ≡ beq false a
-    go true = refl
-    go false = refl
+-- the part of the levels that is level i
+pub level_part : (n i : ℕ) (ls : List ℕ) → take (i * (n * n) - (i - 1) * (n * n)) (drop ((i - 1) * (n * n)) ls) ≡ level_of n ls i
+unfolding level_of
+level_part n i ls =
+    take_from ((i - 1) * (n * n)) (i * (n * n)) ls (mul-le-mul_right {m = i - 1} {n = i} (n * n) (omega arith))
+    ∙ ap (λ (j : ℕ). slice (j * (n * n)) (i * (n * n)) ls) (sym (pred_is i))

@@ -1,3 +1,8 @@
+use mathlib.Core.Path.{◌≡◌, ◌∙◌}
+use mathlib.Core.Bool.{cond}
+use borrow.Author.Rules.{rules}
+use lib.Dec.{ltb}
+use lib.ListN.{get_or}
 use native.Mathlib.Omega.{arith}
 use Rattle.relations.proofs.Laws.Areas as areas
 use Rattle.rules.proofs.Laws.Places.{square_le}
@@ -12,39 +17,26 @@ pub overflow_mul-at-2 : goal.overflow_mul-at-2
 overflow_mul-at-2 c = omega (arith, square_le c.requires.0)
 
 pub loop-p-init : goal.loop-p-init
-loop-p-init c = (omega arith, numbers.max_none c.args.table.now, areas.run_none _ _ _)
+loop-p-init c = (numbers.max_none c.args.table.now, areas.run_none _ _ _)
 
 pub overflow_add-area : goal.overflow_add-area
 overflow_add-area c = omega (arith, square_le c.requires.0)
 
 pub bounds-area-at : goal.bounds-area-at
-bounds-area-at c = omega (arith, c.loop-p.invariant.2.frame.size)
-
-pub loop-p-preserved-then-most-x : goal.loop-p-preserved-then-most-x
-loop-p-preserved-then-most-x c = (
-  omega arith,
-  omega (arith, numbers.max_step c.args.table.now c.loop-p.p c.loop-p-test.true),
-  areas.run_push _ _ _ _ _ 1 (omega arith) (emitting.first_yes c.args.table.now c.loop-p.p (omega arith)) c.loop-p.invariant.2,
-)
-
-pub overflow_add-area-in-loop-p : goal.overflow_add-area-in-loop-p
-overflow_add-area-in-loop-p c = omega (arith, square_le c.requires.0)
-
-pub bounds-area-at-in-loop-p : goal.bounds-area-at-in-loop-p
-bounds-area-at-in-loop-p c = omega (arith, c.loop-p.invariant.2.frame.size)
+bounds-area-at c = omega (arith, c.loop-p.invariant.1.frame.size)
 
 pub loop-p-preserved : goal.loop-p-preserved
-loop-p-preserved c = (
-  omega arith,
-  omega (arith, numbers.max_step c.args.table.now c.loop-p.p c.loop-p-test.true),
-  areas.run_push _ _ _ _ _ 0 (omega arith) (emitting.first_not c.args.table.now c.loop-p.p (omega arith)) c.loop-p.invariant.2,
-)
+loop-p-preserved c =
+    let above : c.from.result ≡ cond (ltb c.loop-p.most (get_or c.args.table.now c.loop-p.p 0)) 1 0 = search rules in (
+      omega (arith, numbers.max_step c.args.table.now c.loop-p.p c.loop-p-test.true, c.max-most.ensures),
+      areas.run_push _ _ _ _ _ _ (omega arith) (above ∙ emitting.first_mark c.args.table.now c.loop-p.p c.loop-p.invariant.0) c.loop-p.invariant.1,
+    )
 
 pub shape_of-area : goal.shape_of-area
-shape_of-area c = c.loop-p.invariant.2.frame.size
+shape_of-area c = c.loop-p.invariant.1.frame.size
 
 pub returns : goal.returns
 returns c = (
-  areas.frame_wide _ _ _ _ _ _ (omega arith) (omega arith) c.loop-p.invariant.2.frame,
-  record { mark = λ p h. c.loop-p.invariant.2.cells p (omega arith) },
+  areas.frame_wide _ _ _ _ _ _ (omega arith) (omega arith) c.loop-p.invariant.1.frame,
+  record { mark = λ p h. c.loop-p.invariant.1.cells p (omega arith) },
 )

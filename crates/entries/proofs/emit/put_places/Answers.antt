@@ -1,5 +1,5 @@
 use Prim.Native.Nat.{ℕ, ◌+◌, ◌*◌, ◌<◌}
-use mathlib.Core.Path.{◌≡◌, refl, sym, ap, ◌∙◌}
+use mathlib.Core.Path.{◌≡◌, sym, ap, ◌∙◌}
 use native.Mathlib.Omega.{arith}
 use borrow.Author.Tests.{not-true, not-false}
 use Rattle.rules.proofs.Laws.Places.{place_lt, row_fits, square_le}
@@ -19,7 +19,7 @@ pub overflow_mul-firsts-2 : goal.overflow_mul-firsts-2
 overflow_mul-firsts-2 c = omega (arith, square_le c.requires.3.small)
 
 pub loop-u-init : goal.loop-u-init
-loop-u-init c = (omega arith, c.requires.1, omega arith, refl, λ J a m o s f w. w)
+loop-u-init c = (omega arith, went.same_refl _, λ J a m o s f w. w)
 
 pub overflow_add-p : goal.overflow_add-p
 overflow_add-p c =
@@ -45,15 +45,13 @@ has_bit-requires c = c.requires.3.label
 pub loop-u-preserved-then-not-has_bit : goal.loop-u-preserved-then-not-has_bit
 loop-u-preserved-then-not-has_bit c =
     let inside : c.loop-u.u < c.args.n = omega (arith, c.loop-u-test.true, c.requires.2) in (
-      omega arith,
-      omega arith,
-      omega (arith, c.loop-u.invariant.2),
-      c.loop-u.invariant.3,
+      omega (arith, c.loop-u.invariant.0),
+      c.loop-u.invariant.1,
       λ J a m o s f w.
           went.went_as _ _ _ _ _ _ _ _ _
           (emitting.row_without c.args.n c.args.table.now J c.args.code c.args.v c.args.area.now f c.loop-u.u c.requires.0 inside c.args.from c.args.l s
           (sym c.has_bit.ensures ∙ not-true _ (not_from_false _ c.if-not-has_bit.true)))
-          (c.loop-u.invariant.4 J a m o s f w),
+          (c.loop-u.invariant.2 J a m o s f w),
     )
 
 pub overflow_add-firsts : goal.overflow_add-firsts
@@ -71,14 +69,12 @@ bounds-area-firsts c =
 pub loop-u-preserved-then-area-firsts-eq0 : goal.loop-u-preserved-then-area-firsts-eq0
 loop-u-preserved-then-area-firsts-eq0 c =
     let inside : c.loop-u.u < c.args.n = omega (arith, c.loop-u-test.true, c.requires.2) in (
-      omega arith,
-      omega arith,
-      omega (arith, c.loop-u.invariant.2),
-      c.loop-u.invariant.3,
+      omega (arith, c.loop-u.invariant.0),
+      c.loop-u.invariant.1,
       λ J a m o s f w.
           went.went_as _ _ _ _ _ _ _ _ _
           (emitting.row_later c.args.n c.args.table.now J c.args.code c.args.v c.args.area.now f c.loop-u.u c.requires.0 inside c.if-area-firsts-eq0.true)
-          (c.loop-u.invariant.4 J a m o s f w),
+          (c.loop-u.invariant.2 J a m o s f w),
     )
 
 pub offset_bounds-table-p : goal.offset_bounds-table-p
@@ -93,29 +89,25 @@ bounds-table-p c =
     let cell : c.args.v * c.args.n + c.loop-u.u < c.args.n * c.args.n = place_lt c.args.n _ _ c.requires.0 inside in
     omega (arith, cell, c.requires.3.square)
 
-pub put-done-requires : goal.put-done-requires
-put-done-requires c = omega (arith, c.loop-u.invariant.2, c.requires.3.few)
+pub put-requires : goal.put-requires
+put-requires c = omega (arith, c.loop-u.invariant.0, c.requires.3.few)
 
 pub loop-u-preserved : goal.loop-u-preserved
 loop-u-preserved c =
     let inside : c.loop-u.u < c.args.n = omega (arith, c.loop-u-test.true, c.requires.2) in (
-      omega arith,
-      omega arith,
-      omega (arith, c.loop-u.invariant.2, c.put-done.ensures.0),
-      c.put-done.ensures.1.size ∙ c.loop-u.invariant.3,
+      omega (arith, c.loop-u.invariant.0, c.put.ensures.0),
+      went.same_trans c.loop-u.invariant.1 c.put.ensures.2,
       λ J a m o s f w.
           went.went_as _ _ _ _ _ _ _ _ _
           (emitting.row_with c.args.n c.args.table.now J c.args.code c.args.v c.args.area.now f c.loop-u.u c.requires.0 inside c.args.from c.args.l s
           c.if-area-firsts-eq0.false (sym c.has_bit.ensures ∙ not-false _ (not_from_true _ c.if-not-has_bit.false)))
-          (went.went_trans _ _ _ _ _ _ _ _ _ _ _ _ (c.loop-u.invariant.4 J a m o s f w) c.put-done.ensures.1),
+          (went.went_trans _ _ _ _ _ _ _ _ _ _ _ _ (c.loop-u.invariant.2 J a m o s f w) (went.went_on c.loop-u.invariant.1 c.put.ensures.1)),
     )
-
-pub shape_of-out : goal.shape_of-out
-shape_of-out c = c.loop-u.invariant.3
 
 pub returns : goal.returns
 returns c =
     let e : c.loop-u.u ≡ c.args.end = omega arith in (
-      omega (arith, c.loop-u.invariant.2),
-      λ J a m o s f w. went.went_as _ _ _ _ _ _ _ _ _ (ap (λ (k : ℕ). entries_row c.args.n c.args.table.now J c.args.code c.args.v k) e) (c.loop-u.invariant.4 J a m o s f w),
+      omega (arith, c.loop-u.invariant.0),
+      λ J a m o s f w. went.went_as _ _ _ _ _ _ _ _ _ (ap (λ (k : ℕ). entries_row c.args.n c.args.table.now J c.args.code c.args.v k) e) (c.loop-u.invariant.2 J a m o s f w),
+      c.loop-u.invariant.1,
     )

@@ -1,5 +1,4 @@
 -- The invariant: levels 1 to i are right and the marks are kept; the first faulty level ends the check with its first position.
-use Prim.Native.Nat.{◌-◌, ◌≤◌}
 use mathlib.Core.Path.{◌≡◌}
 use Rattle.rules.specs.Rule.{rule}
 use Rattle.rules.specs.Levels.{level_of}
@@ -10,7 +9,7 @@ use Rattle.twins.specs.Standing.{Kept}
 use Rattle.levels.proofs.all.judge_levels.Given as goal
 
 abbrev pub invariant-loop-i : goal.invariant-loop-i
-invariant-loop-i l = (l.i ≤ l.k) × (levels_right rule (marked_graph l.n l.initial.area) l.i (level_of l.n l.levels) ≡ good) × Kept l.n l.initial.area l.area
-
-abbrev pub decreases-loop-i : goal.decreases-loop-i
-decreases-loop-i l = l.k - l.i
+invariant-loop-i l = record {
+  right : levels_right rule (marked_graph l.n l.initial.area) l.i (level_of l.n l.levels) ≡ good;
+  kept : Kept l.n l.initial.area l.area;
+}

@@ -1,5 +1,4 @@
 -- The invariant: the built levels 1 to i stand at the front, top is the largest number of level i, and the marks are kept.
-use Prim.Native.Nat.{◌-◌, ◌≤◌}
 use mathlib.Core.Path.{◌≡◌}
 use Rattle.rules.specs.Rule.{rule}
 use Rattle.rules.specs.Levels.{max_of, built_level, built_levels}
@@ -9,7 +8,8 @@ use Rattle.twins.specs.Standing.{Kept}
 use Rattle.levels.proofs.all.number_levels.Given as goal
 
 abbrev pub invariant-loop-i : goal.invariant-loop-i
-invariant-loop-i l = (l.i ≤ l.k) × (l.levels ≡ front (built_levels rule (marked_graph l.n l.initial.area) l.i) l.initial.levels) × (l.top ≡ max_of (built_level rule (marked_graph l.n l.initial.area) l.i)) × Kept l.n l.initial.area l.area
-
-abbrev pub decreases-loop-i : goal.decreases-loop-i
-decreases-loop-i l = l.k - l.i
+invariant-loop-i l = record {
+  written : l.levels ≡ front (built_levels rule (marked_graph l.n l.initial.area) l.i) l.initial.levels;
+  count : l.top ≡ max_of (built_level rule (marked_graph l.n l.initial.area) l.i);
+  kept : Kept l.n l.initial.area l.area;
+}

@@ -1,14 +1,18 @@
 -- `lines::feeding::last_line` meets its contract.
 use mathlib.Core.Path.{sym, ◌∙◌}
-use Rattle.machine.proofs.Laws.Steps.{steps_as}
+use native.Mathlib.Omega.{arith}
+use Rattle.machine.proofs.Laws.Steps.{steps_as, still}
 use Rattle.lines.proofs.Laws.Feeding.{last_stopped, last_empty, last_held}
+use Rattle.lines.proofs.feeding.last_line.Goals.{then-is_stopped-via-then-is_stopped, then-is_stopped-via-else-is_stopped+then-run-eq0}
 use Rattle.lines.proofs.feeding.last_line.Goals as goal
 
 pub returns-then-is_stopped : goal.returns-then-is_stopped
-returns-then-is_stopped c = let a = c.args in last_stopped a.s a.part.now a.edges.now a.levels.now a.entries.now c.requires.0 (sym (c.is_stopped.ensures a.edges.now a.levels.now a.entries.now) ∙ c.if-is_stopped.true) a.out.now
-
-pub returns-then-s-eq0 : goal.returns-then-s-eq0
-returns-then-s-eq0 c = let a = c.args in last_empty a.s a.part.now a.edges.now a.levels.now a.entries.now c.requires.0 (sym (c.is_stopped.ensures a.edges.now a.levels.now a.entries.now) ∙ c.if-is_stopped.false) c.if-s-eq0.true a.out.now
+returns-then-is_stopped c =
+    let r = c.args.run.now in
+    elim c.then-is_stopped.branch [
+      | then-is_stopped-via-then-is_stopped w ↦ steps_as (last_stopped r (sym c.is_stopped.ensures ∙ w.if-is_stopped.true)) (still r)
+      | then-is_stopped-via-else-is_stopped+then-run-eq0 w ↦ steps_as (last_empty r (sym c.is_stopped.ensures ∙ w.if-is_stopped.false) w.if-run-eq0.true) (still r)
+    ]
 
 pub returns : goal.returns
-returns c = let a = c.args in steps_as (last_held a.s a.part.now a.edges.now a.levels.now a.entries.now c.requires.0 c.requires.1 (sym (c.is_stopped.ensures a.edges.now a.levels.now a.entries.now) ∙ c.if-is_stopped.false) c.if-s-eq0.false) c.end_line.ensures
+returns c = steps_as (last_held c.args.run.now (sym c.is_stopped.ensures ∙ c.if-is_stopped.false) (omega (arith, c.if-run-eq0.false))) c.end_line.ensures

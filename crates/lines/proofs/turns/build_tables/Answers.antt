@@ -1,21 +1,49 @@
 -- `lines::turns::build_tables` meets its contract.
+use Prim.Native.Nat.{ℕ}
+use mathlib.Core.Path.{refl, sym, ap, ◌∙◌}
+use mathlib.Core.List.{List}
 use native.Mathlib.Omega.{arith}
-use lib.ListN.{take}
+use lib.Seq.{sets}
+use Rattle.format.specs.Texts.{built_text}
+use Rattle.format.proofs.Laws.Texts.{built_length}
+use Rattle.machine.specs.Standing.{stage_by}
 use Rattle.machine.proofs.Laws.Stages.{comes_as}
-use Rattle.lines.proofs.Laws.Building.{tables_turn, refused_turn, stop_few}
+use Rattle.lines.proofs.Laws.Building.{entries_few, levels_some, tables_turn, refused_turn, made_comes, stop_few}
 use Rattle.lines.proofs.turns.build_tables.Goals as goal
 
-pub returns-in-Tables : goal.returns-in-Tables
-returns-in-Tables c =
-    let a = c.args in
-    let q = c.requires in
-    let b = c.make_tables in
-    (tables_turn a.p (take a.p.edges a.edges.now) a.levels.now a.entries.now q.1.levels_lent q.1.entries_lent b.result b.new.levels b.new.entries b.ensures _ _ _ c.in-Tables.is q.0 a.edges.now a.out.now c.put_built.new.out c.put_built.ensures (omega (arith, q.1.out_lent)), omega arith)
+pub invariant_of-run : goal.invariant_of-run
+invariant_of-run c =
+    let r = c.args.run.now in
+    let b = c.make_tables.ensures in
+    let n = c.in-Ok.counts in
+    let l = levels_some _ _ _ _ r.level_room r.entry_room _ _ _ b n.classes n.pairs n.entries c.in-Ok.is in
+    record {
+      few_items = c.args.gathered.few_items;
+      some_level = l.some_level;
+      few_levels = l.few_levels;
+      entries_fit = entries_few _ _ _ _ r.level_room r.entry_room _ _ _ b n.classes n.pairs n.entries c.in-Ok.is;
+    }
 
-pub returns-in-Refused : goal.returns-in-Refused
-returns-in-Refused c =
-    let a = c.args in
-    let q = c.requires in
-    let b = c.make_tables in
-    let h = c.stop.ensures a.edges.now b.new.levels b.new.entries in
-    (comes_as (refused_turn a.p (take a.p.edges a.edges.now) a.levels.now a.entries.now q.1.levels_lent q.1.entries_lent b.result b.new.levels b.new.entries b.ensures _ c.in-Refused.is) h, stop_few _ _ _ _ _ _ _ h)
+pub returns-in-Ok : goal.returns-in-Ok
+unfolding stage_by
+returns-in-Ok c =
+    let r = c.args.run.now in
+    let b = c.make_tables.ensures in
+    let n = c.in-Ok.counts in (
+      comes_as (tables_turn _ _ _ _ r.level_room r.entry_room _ _ _ b n.classes n.pairs n.entries c.in-Ok.is)
+          (record {
+            stage = refl;
+            many = sym (built_length n.classes n.pairs n.entries);
+            text = c.put_built.ensures ∙ ap (λ (w : List ℕ). sets w 0 (built_text n.classes n.pairs n.entries)) b.out;
+            inside = omega (arith, r.out_room);
+            lines = b.lines;
+            line = b.line;
+          }),
+      omega arith,
+    )
+
+pub returns-in-Err : goal.returns-in-Err
+returns-in-Err c =
+    let r = c.args.run.now in
+    let b = c.make_tables.ensures in
+    (comes_as (refused_turn _ _ _ _ r.level_room r.entry_room _ _ _ b _ c.in-Err.is) (made_comes b c.stop.ensures), stop_few _ c.stop.ensures)

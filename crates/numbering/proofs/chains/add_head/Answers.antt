@@ -8,7 +8,7 @@ use Rattle.twins.specs.Chains.{set_word}
 use Rattle.numbering.proofs.chains.add_head.Goals as goal
 
 pub set_word-requires-2 : goal.set_word-requires-2
-set_word-requires-2 c = (omega arith, omega (arith, square_le c.requires.0))
+set_word-requires-2 c = record { room = omega arith; small = omega (arith, square_le c.requires.0) }
 
 pub returns : goal.returns
 returns c =
@@ -16,4 +16,4 @@ returns c =
     let n = a.n in
     c.set_word-2.ensures
     ∙ ap (λ (z : List ℕ). set_word z (4 * (n * n) + 2 * a.b) (a.p + 1))
-    (c.set_word.ensures ∙ ap (set_word a.area.now (2 * (n * n) + 2 * a.p)) c.word_at-old.ensures.0)
+    (c.set_word.ensures ∙ ap (set_word a.area.now (2 * (n * n) + 2 * a.p)) c.word_at-old.ensures.number)

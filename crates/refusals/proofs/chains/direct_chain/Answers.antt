@@ -1,61 +1,48 @@
--- Five ends: sizes, edge count, edges, the fault in reading, room. Each passes over the links that were good.
-use mathlib.Core.Path.{◌≡◌}
-use Rattle.rules.specs.Reading.{read_tokens}
-use Rattle.rules.specs.Verdict.{good, sizes, edge_count, edges_fit, room, well_read}
-use Rattle.rules.proofs.Laws.Links.{sizes_fit, edges_whole}
-use Rattle.refusals.proofs.Laws.Links.{link_good, read_good, read_refused, chain_on, chain_fault, chain_end}
+-- Four ends, one a link, and past all of them.
+use Rattle.rules.specs.Verdict.{room}
 use Rattle.rules.specs.Outcomes.{direct_refusal}
+use Rattle.rules.proofs.Laws.Links.{sizes_fit, edges_whole}
+use Rattle.rules.proofs.Laws.Results.{handed_on}
+use Rattle.refusals.proofs.Laws.Links.{link_good, chain_end, link_on, read_on, read_end}
 use Rattle.refusals.proofs.chains.direct_chain.Goals as goal
 
-pub returns-in_default : goal.returns-in_default
+pub returns-in_err-sizes : goal.returns-in_err-sizes
 unfolding direct_refusal
-returns-in_default c = λ answers. chain_end _ _ c.in_default.field-0 c.sizes-s.ensures c.in_default.is
+returns-in_err-sizes c = λ answers. chain_end _ _ _ c.in_err-sizes.ensures (handed_on _ _ c.from_residual.ensures.1)
 
-pub returns-in_default-c : goal.returns-in_default-c
+pub returns-in_err-edge_count : goal.returns-in_err-edge_count
 unfolding direct_refusal
-returns-in_default-c c =
-    let few : let a = c.args in sizes a.items a.labels ≡ good = link_good _ c.sizes-s.ensures c.in-Good.is in
-    λ answers. chain_on _ _ few (chain_end _ _ c.in_default-c.field-0 c.edge_count-c.ensures c.in_default-c.is)
+returns-in_err-edge_count c = λ answers.
+    link_on _ _ c.in_ok-sizes.ensures (chain_end _ _ _ c.in_err-edge_count.ensures (handed_on _ _ c.from_residual-in_err-edge_count.ensures.1))
 
-pub edges_fit-f-requires : goal.edges_fit-f-requires
-edges_fit-f-requires c =
-    let whole : let a = c.args in edge_count a.edges.now ≡ good = link_good _ c.edge_count-c.ensures c.in-Good-c.is in
-    (edges_whole _ whole).few_edges
+pub edges_fit-requires : goal.edges_fit-requires
+edges_fit-requires c = (edges_whole _ (link_good _ c.in_ok-edge_count.ensures)).few_edges
 
-pub returns-in_default-f : goal.returns-in_default-f
+pub returns-in_err-edges_fit : goal.returns-in_err-edges_fit
 unfolding direct_refusal
-returns-in_default-f c =
-    let few : let a = c.args in sizes a.items a.labels ≡ good = link_good _ c.sizes-s.ensures c.in-Good.is in
-    let whole : let a = c.args in edge_count a.edges.now ≡ good = link_good _ c.edge_count-c.ensures c.in-Good-c.is in
-    λ answers. chain_on _ _ few (chain_on _ _ whole (chain_end _ _ c.in_default-f.field-0 c.edges_fit-f.ensures c.in_default-f.is))
+returns-in_err-edges_fit c = λ answers.
+    link_on _ _ c.in_ok-sizes.ensures
+    (link_on _ _ c.in_ok-edge_count.ensures
+    (chain_end _ _ _ c.in_err-edges_fit.ensures (handed_on _ _ c.from_residual-in_err-edges_fit.ensures.1)))
 
-pub read_tokens-r-requires : goal.read_tokens-r-requires
-read_tokens-r-requires c =
-    let few : let a = c.args in sizes a.items a.labels ≡ good = link_good _ c.sizes-s.ensures c.in-Good.is in
-    (sizes_fit _ _ few).labels_fit
+pub read_tokens-requires : goal.read_tokens-requires
+read_tokens-requires c = (sizes_fit _ _ (link_good _ c.in_ok-sizes.ensures)).labels_fit
 
-pub returns-in_default-r : goal.returns-in_default-r
+pub returns-in_err-read_tokens : goal.returns-in_err-read_tokens
 unfolding direct_refusal
-returns-in_default-r c =
-    let few : let a = c.args in sizes a.items a.labels ≡ good = link_good _ c.sizes-s.ensures c.in-Good.is in
-    let whole : let a = c.args in edge_count a.edges.now ≡ good = link_good _ c.edge_count-c.ensures c.in-Good-c.is in
-    let fit : let a = c.args in edges_fit a.items a.labels a.edges.now ≡ good = link_good _ c.edges_fit-f.ensures c.in-Good-f.is in
-    λ answers. chain_on _ _ few
-    (chain_on _ _ whole
-    (chain_on _ _ fit
-    (chain_fault _ _ c.in_default-r.field-0 (read_refused _ c.in_default-r.field-0 c.read_tokens-r.ensures c.in_default-r.is) (c.unread.ensures c.in_default-r.field-0 c.in_default-r.is))))
+returns-in_err-read_tokens c = λ answers.
+    link_on _ _ c.in_ok-sizes.ensures
+    (link_on _ _ c.in_ok-edge_count.ensures
+    (link_on _ _ c.in_ok-edges_fit.ensures
+    (read_end _ _ _ c.in_err-read_tokens.ensures (handed_on _ _ c.from_residual-in_err-read_tokens.ensures.1))))
 
-pub pairs-requires : goal.pairs-requires
-pairs-requires c =
-    let few : let a = c.args in sizes a.items a.labels ≡ good = link_good _ c.sizes-s.ensures c.in-Good.is in
-    (sizes_fit _ _ few).items_fit
+pub pairs-needed-requires : goal.pairs-needed-requires
+pairs-needed-requires c = (sizes_fit _ _ (link_good _ c.in_ok-sizes.ensures)).items_fit
 
 pub returns : goal.returns
 unfolding direct_refusal room
-returns c =
-    let few : let a = c.args in sizes a.items a.labels ≡ good = link_good _ c.sizes-s.ensures c.in-Good.is in
-    let whole : let a = c.args in edge_count a.edges.now ≡ good = link_good _ c.edge_count-c.ensures c.in-Good-c.is in
-    let fit : let a = c.args in edges_fit a.items a.labels a.edges.now ≡ good = link_good _ c.edges_fit-f.ensures c.in-Good-f.is in
-    let read : let a = c.args in well_read (read_tokens a.labels a.tokens.now) ≡ good = read_good _ c.in-Query.field-0 c.read_tokens-r.ensures c.in-Query.is in
-    λ answers. chain_on _ _ few
-    (chain_on _ _ whole (chain_on _ _ fit (chain_on _ _ read (rw c.pairs.ensures.0 at c.room.ensures))))
+returns c = λ answers.
+    link_on _ _ c.in_ok-sizes.ensures
+    (link_on _ _ c.in_ok-edge_count.ensures
+    (link_on _ _ c.in_ok-edges_fit.ensures
+    (read_on _ _ _ c.in_ok-read_tokens.ensures (rw c.pairs-needed.ensures.0 at c.room.ensures))))

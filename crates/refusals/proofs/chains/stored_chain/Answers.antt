@@ -1,52 +1,40 @@
--- Four ends: sizes, the fault in reading, room in the area, room in the table. Each passes over the links that were good.
-use Prim.Native.Nat.{◌*◌}
-use mathlib.Core.Path.{◌≡◌}
-use Rattle.rules.specs.Reading.{read_tokens}
-use Rattle.rules.specs.Verdict.{good, sizes, room, well_read}
-use Rattle.rules.proofs.Laws.Links.{sizes_fit}
-use Rattle.refusals.proofs.Laws.Links.{link_good, read_good, read_refused, chain_on, chain_fault, chain_end}
+-- Three ends, one a link, and past all of them.
+use Rattle.rules.specs.Verdict.{room}
 use Rattle.rules.specs.Outcomes.{stored_refusal}
+use Rattle.rules.proofs.Laws.Links.{sizes_fit}
+use Rattle.rules.proofs.Laws.Results.{handed_on}
+use Rattle.refusals.proofs.Laws.Links.{link_good, chain_end, link_on, read_on, read_end}
 use Rattle.refusals.proofs.chains.stored_chain.Goals as goal
 
-pub returns-in_default : goal.returns-in_default
+pub returns-in_err-sizes : goal.returns-in_err-sizes
 unfolding stored_refusal
-returns-in_default c = λ entries answers. chain_end _ _ c.in_default.field-0 c.sizes-s.ensures c.in_default.is
+returns-in_err-sizes c = λ entries answers. chain_end _ _ _ c.in_err-sizes.ensures (handed_on _ _ c.from_residual.ensures.1)
 
-pub read_tokens-r-requires : goal.read_tokens-r-requires
-read_tokens-r-requires c =
-    let few : let a = c.args in sizes a.items a.labels ≡ good = link_good _ c.sizes-s.ensures c.in-Good.is in
-    (sizes_fit _ _ few).labels_fit
+pub read_tokens-requires : goal.read_tokens-requires
+read_tokens-requires c = (sizes_fit _ _ (link_good _ c.in_ok-sizes.ensures)).labels_fit
 
-pub returns-in_default-r : goal.returns-in_default-r
+pub returns-in_err-read_tokens : goal.returns-in_err-read_tokens
 unfolding stored_refusal
-returns-in_default-r c =
-    let few : let a = c.args in sizes a.items a.labels ≡ good = link_good _ c.sizes-s.ensures c.in-Good.is in
-    λ entries answers. chain_on _ _ few
-    (chain_fault _ _ c.in_default-r.field-0 (read_refused _ c.in_default-r.field-0 c.read_tokens-r.ensures c.in_default-r.is) (c.unread.ensures c.in_default-r.field-0 c.in_default-r.is))
+returns-in_err-read_tokens c = λ entries answers.
+    link_on _ _ c.in_ok-sizes.ensures
+    (read_end _ _ _ c.in_err-read_tokens.ensures (handed_on _ _ c.from_residual-in_err-read_tokens.ensures.1))
 
 pub pairs-requires : goal.pairs-requires
-pairs-requires c =
-    let few : let a = c.args in sizes a.items a.labels ≡ good = link_good _ c.sizes-s.ensures c.in-Good.is in
-    (sizes_fit _ _ few).items_fit
+pairs-requires c = (sizes_fit _ _ (link_good _ c.in_ok-sizes.ensures)).items_fit
 
-pub returns-in_default-a : goal.returns-in_default-a
+pub returns-in_err-room : goal.returns-in_err-room
 unfolding stored_refusal room
-returns-in_default-a c =
-    let few : let a = c.args in sizes a.items a.labels ≡ good = link_good _ c.sizes-s.ensures c.in-Good.is in
-    let read : let a = c.args in well_read (read_tokens a.labels a.tokens.now) ≡ good = read_good _ c.in-Query.field-0 c.read_tokens-r.ensures c.in-Query.is in
-    λ entries answers. chain_on _ _ few
-    (chain_on _ _ read (chain_end _ _ c.in_default-a.field-0 (rw c.pairs.ensures.0 at c.room-a.ensures) c.in_default-a.is))
+returns-in_err-room c = λ entries answers.
+    link_on _ _ c.in_ok-sizes.ensures
+    (read_on _ _ _ c.in_ok-read_tokens.ensures
+    (chain_end _ _ _ (rw c.pairs.ensures.0 at c.in_err-room.ensures) (handed_on _ _ c.from_residual-in_err-room.ensures.1)))
 
 pub pairs-requires-2 : goal.pairs-requires-2
-pairs-requires-2 c =
-    let few : let a = c.args in sizes a.items a.labels ≡ good = link_good _ c.sizes-s.ensures c.in-Good.is in
-    (sizes_fit _ _ few).items_fit
+pairs-requires-2 c = (sizes_fit _ _ (link_good _ c.in_ok-sizes.ensures)).items_fit
 
 pub returns : goal.returns
 unfolding stored_refusal room
-returns c =
-    let few : let a = c.args in sizes a.items a.labels ≡ good = link_good _ c.sizes-s.ensures c.in-Good.is in
-    let read : let a = c.args in well_read (read_tokens a.labels a.tokens.now) ≡ good = read_good _ c.in-Query.field-0 c.read_tokens-r.ensures c.in-Query.is in
-    let wide : let a = c.args in room a.area.now (9 * (a.items * a.items)) ≡ good = link_good _ (rw c.pairs.ensures.0 at c.room-a.ensures) c.in-Good-a.is in
-    λ entries answers. chain_on _ _ few
-    (chain_on _ _ read (chain_on _ _ wide (rw c.pairs-2.ensures.0 at c.room.ensures)))
+returns c = λ entries answers.
+    link_on _ _ c.in_ok-sizes.ensures
+    (read_on _ _ _ c.in_ok-read_tokens.ensures
+    (link_on _ _ (rw c.pairs.ensures.0 at c.in_ok-room.ensures) (rw c.pairs-2.ensures.0 at c.room-2.ensures)))

@@ -60,7 +60,7 @@ returns-in-Join c = rw c.in-Join.is
 
 pub returns-in-Conjunction : goal.returns-in-Conjunction
 unfolding measured
-returns-in-Conjunction c = rw (c.in-Conjunction.is, c.larger.ensures)
+returns-in-Conjunction c = rw (c.in-Conjunction.is, c.max.ensures)
 
 pub returns-in-Unknown : goal.returns-in-Unknown
 unfolding measured

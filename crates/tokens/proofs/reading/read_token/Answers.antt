@@ -13,11 +13,11 @@ returns-in-32 c = rw c.in-32.is (sym (token_join _ c.requires))
 pub returns-in-33 : goal.returns-in-33
 returns-in-33 c = rw c.in-33.is (sym (token_conjunction _ c.requires))
 
-pub returns-then-wide-labels : goal.returns-then-wide-labels
-returns-then-wide-labels c = sym (token_step _ _ (omega arith) (omega arith))
-
-pub returns-else-wide-labels : goal.returns-else-wide-labels
-returns-else-wide-labels c = sym (token_unknown _ _ (omega arith) (omega arith) c.in-1-to-16.in_default-own.rest.0.1 c.in-1-to-16.in_default-own.rest.1)
+pub returns-in-1-to-16 : goal.returns-in-1-to-16
+returns-in-1-to-16 c = sym (token_step _ _ (omega arith) (omega (arith, c.from.ensures)))
 
 pub returns-in_default : goal.returns-in_default
-returns-in_default c = sym (token_unknown _ _ (omega arith) (omega arith) c.in_default.in_default-own.rest.0.1 c.in_default.in_default-own.rest.1)
+returns-in_default c = sym (token_unknown _ _ (omega arith) (omega (arith, c.from.ensures)) (λ e. omega arith) (λ e. omega arith))
+
+pub returns-in_default-2 : goal.returns-in_default-2
+returns-in_default-2 c = sym (token_unknown _ _ (omega arith) (omega arith) (λ e. omega arith) (λ e. omega arith))

@@ -1,12 +1,7 @@
 -- The reading so far is kept by `Measuring`; the first token that may not stand ends it with its refusal.
-use Prim.Native.Nat.{◌-◌, ◌≤◌}
-use mathlib.Core.Path.{◌≡◌}
-use lib.ListN.{length}
+use Prim.Native.Nat.{◌≤◌}
 use Rattle.tokens.proofs.Laws.Diameters.{Measuring}
 use Rattle.tokens.proofs.reading.read_tokens.Given as goal
 
 abbrev pub invariant-loop-at : goal.invariant-loop-at
-invariant-loop-at l = (l.at ≤ l.at-end) × (l.at-end ≡ length l.tokens) × (l.depth ≤ 8) × Measuring l.labels l.tokens l.at l.depth l.diameters
-
-abbrev pub decreases-loop-at : goal.decreases-loop-at
-decreases-loop-at l = l.at-end - l.at
+invariant-loop-at l = (l.depth ≤ 8) × Measuring l.labels l.tokens l.at l.depth l.diameters

@@ -1,38 +1,37 @@
 use mathlib.Core.Path.{◌≡◌, refl}
 use native.Mathlib.Omega.{arith}
 use lib.ListN.{length-set}
-use Rattle.rules.specs.Levels.{level_of}
 use Rattle.twins.specs.Skips.{Next}
-use Rattle.twins.proofs.Laws.Halves.{halves_start, halves_skip, halves_first, halves_second, halves_old, halves_new}
+use Rattle.twins.proofs.Laws.Halves.{listed_cut, halves_start, halves_skip, halves_first, halves_second, halves_old, halves_new}
 use Rattle.twins.proofs.halves.halves.Goals as goal
 
 pub loop-m-init : goal.loop-m-init
-loop-m-init c = (omega arith, halves_start _ _ _ _ _ _ _ _ c.requires.2, refl)
+loop-m-init c = (omega arith, halves_start _ _ _ _ _ _ _ _ c.requires.3, refl)
 
 pub next_from-w-requires : goal.next_from-w-requires
-next_from-w-requires c = (c.requires.0.skips.room, record { first = c.requires.1.first; second = c.loop-m-test.true })
+next_from-w-requires c = (c.requires.0.skips.room, record { first = c.requires.2.first; second = c.loop-m-test.true })
 
 pub loop-m-smaller-then-w-m : goal.loop-m-smaller-then-w-m
 loop-m-smaller-then-w-m c =
-    let ahead : Next c.args.n (level_of c.args.n c.args.levels.now c.args.first) c.args.v c.loop-m.m c.next_from-w.result = rw c.next_from-w.ensures (c.requires.0.skips.next_at _ _ c.requires.1.first c.loop-m-test.true) in
+    let ahead : Next c.args.first.n c.args.first.numbers.now c.args.v c.loop-m.m c.next_from-w.result = rw c.next_from-w.ensures (c.requires.0.skips.next_at _ _ c.requires.2.first c.loop-m-test.true) in
     omega (arith, ahead.up, ahead.few, c.if-w-m.true)
 
 pub loop-m-preserved-then-w-m : goal.loop-m-preserved-then-w-m
 loop-m-preserved-then-w-m c =
-    let ahead : Next c.args.n (level_of c.args.n c.args.levels.now c.args.first) c.args.v c.loop-m.m c.next_from-w.result = rw c.next_from-w.ensures (c.requires.0.skips.next_at _ _ c.requires.1.first c.loop-m-test.true) in
+    let ahead : Next c.args.first.n c.args.first.numbers.now c.args.v c.loop-m.m c.next_from-w.result = rw c.next_from-w.ensures (c.requires.0.skips.next_at _ _ c.requires.2.first c.loop-m-test.true) in
     let l = c.loop-m in
     (ahead.few, halves_skip _ _ _ _ _ _ _ _ _ _ _ l.invariant.1 _ ahead, l.invariant.2)
 
 pub number_at-b-requires : goal.number_at-b-requires
-number_at-b-requires c = (c.requires.0.second_stands, record { first = omega (arith, c.if-w-m.false, c.loop-m-test.true); second = c.requires.1.second })
+number_at-b-requires c = record { first = omega (arith, c.if-w-m.false, c.loop-m-test.true, c.requires.1); second = omega (arith, c.requires.2.second, c.requires.1) }
 
 pub loop-m-preserved-then-b-eq0 : goal.loop-m-preserved-then-b-eq0
 loop-m-preserved-then-b-eq0 c =
     let l = c.loop-m in
-    (omega arith, halves_second _ _ _ _ _ _ _ _ _ _ _ l.invariant.1 (rw c.if-w-m.false at c.number_at-b.ensures) c.if-b-eq0.true, l.invariant.2)
+    (omega arith, halves_second _ _ _ _ _ _ _ _ _ _ _ l.invariant.1 (rw (c.if-w-m.false, c.requires.1) at c.number_at-b.ensures) c.if-b-eq0.true, l.invariant.2)
 
 pub number_at-a-requires : goal.number_at-a-requires
-number_at-a-requires c = (c.requires.0.first_stands, record { first = c.requires.1.first; second = omega (arith, c.if-w-m.false, c.loop-m-test.true) })
+number_at-a-requires c = record { first = c.requires.2.first; second = omega (arith, c.if-w-m.false, c.loop-m-test.true) }
 
 pub loop-m-preserved-then-a-eq0 : goal.loop-m-preserved-then-a-eq0
 loop-m-preserved-then-a-eq0 c =
@@ -53,8 +52,8 @@ pub loop-m-preserved-then-is_last : goal.loop-m-preserved-then-is_last
 loop-m-preserved-then-is_last c =
     let l = c.loop-m in (
       omega arith,
-      halves_old _ _ _ _ _ _ _ _ _ _ _ l.invariant.1 (rw c.if-w-m.false at c.number_at-a.ensures) (rw c.if-w-m.false at c.number_at-b.ensures) c.midpoint_of-x.ensures
-          (c.is_last.ensures c.if-is_last.true),
+      halves_old _ _ _ _ _ _ _ _ _ _ _ l.invariant.1 (rw c.if-w-m.false at c.number_at-a.ensures) (rw (c.if-w-m.false, c.requires.1) at c.number_at-b.ensures) c.midpoint_of-x.ensures
+          (listed_cut _ _ _ (omega (arith, l.invariant.1.few, l.invariant.1.room)) (c.is_last.ensures c.if-is_last.true)),
       l.invariant.2,
     )
 
@@ -71,7 +70,7 @@ pub loop-m-preserved : goal.loop-m-preserved
 loop-m-preserved c =
     let l = c.loop-m in (
       omega arith,
-      halves_new _ _ _ _ _ _ _ _ _ _ _ l.invariant.1 (rw c.if-w-m.false at c.number_at-a.ensures) (rw c.if-w-m.false at c.number_at-b.ensures) c.midpoint_of-x.ensures
+      halves_new _ _ _ _ _ _ _ _ _ _ _ l.invariant.1 (rw c.if-w-m.false at c.number_at-a.ensures) (rw (c.if-w-m.false, c.requires.1) at c.number_at-b.ensures) c.midpoint_of-x.ensures
           c.if-a-eq0.false c.if-b-eq0.false c.loop-m-test.true,
       simp length-set l.invariant.2,
     )
@@ -82,5 +81,5 @@ shape_of-list c = c.loop-m.invariant.2
 pub returns : goal.returns
 returns c =
     let l = c.loop-m in
-    let e : l.m ≡ c.args.n = omega arith in
+    let e : l.m ≡ c.args.first.n = omega arith in
     rw e at l.invariant.1

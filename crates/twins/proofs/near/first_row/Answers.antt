@@ -1,28 +1,18 @@
-use mathlib.Core.Path.{◌≡◌, refl}
+use mathlib.Core.Path.{◌≡◌, ap, ◌∙◌}
 use native.Mathlib.Omega.{arith}
-use lib.ListN.{length-set}
 use Rattle.rules.proofs.Laws.Writing.{fill_none, fill_more}
+use Rattle.twins.specs.Marks.{one_if}
+use Rattle.twins.proofs.Laws.Rows.{byte_told}
 use Rattle.twins.proofs.near.first_row.Goals as goal
 
 pub loop-u-init : goal.loop-u-init
-loop-u-init c = (omega arith, fill_none _ _ _, refl)
-
-pub offset_bounds-row-u : goal.offset_bounds-row-u
-offset_bounds-row-u c = omega (arith, c.loop-u.invariant.2)
-
-pub bounds-row-u : goal.bounds-row-u
-bounds-row-u c = omega (arith, c.loop-u.invariant.2)
+loop-u-init c = fill_none _ _ _
 
 pub loop-u-preserved : goal.loop-u-preserved
-loop-u-preserved c =
-    let l = c.loop-u in
-    (omega arith, fill_more _ _ _ _ _ _ _ l.invariant.1 (omega arith) c.step_bit.ensures, simp length-set l.invariant.2)
-
-pub shape_of-row : goal.shape_of-row
-shape_of-row c = c.loop-u.invariant.2
+loop-u-preserved c = fill_more _ _ _ _ _ _ _ c.loop-u.invariant (omega arith) (c.from.ensures ∙ byte_told _ ∙ ap one_if c.next_to.ensures)
 
 pub returns : goal.returns
 returns c =
     let l = c.loop-u in
-    let e : l.u ≡ c.args.n = omega arith in
-    rw e at l.invariant.1
+    let e : l.u ≡ c.args.steps.n = omega arith in
+    rw e at l.invariant

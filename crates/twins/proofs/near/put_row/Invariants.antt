@@ -1,7 +1,5 @@
 -- The invariant: the first u bytes from `at` on are the signs of the row, the rest of the area is as before.
-use Prim.Native.Nat.{◌-◌, ◌≤◌}
 use mathlib.Core.Path.{◌≡◌}
-use lib.ListN.{length}
 use Rattle.rules.specs.Writing.{fill}
 use mathlib.Core.Bool.{not}
 use lib.Dec.{eqb}
@@ -10,7 +8,4 @@ use Rattle.twins.specs.Marks.{one_if}
 use Rattle.twins.proofs.near.put_row.Given as goal
 
 abbrev pub invariant-loop-u : goal.invariant-loop-u
-invariant-loop-u l = (l.u ≤ l.n) × (l.area ≡ fill l.initial.area l.at l.u (λ x. one_if (not (eqb (get_or l.row x 0) 0)))) × (length l.area ≡ length l.initial.area)
-
-abbrev pub decreases-loop-u : goal.decreases-loop-u
-decreases-loop-u l = l.n - l.u
+invariant-loop-u l = l.area ≡ fill l.initial.area l.at l.u (λ x. one_if (not (eqb (get_or l.row x 0) 0)))

@@ -1,0 +1,7 @@
+-- `machine::Run::bad_frame` meets its contract.
+use Rattle.machine.specs.Machine.{bad_frame}
+use Rattle.machine.proofs.Run.bad_frame.Goals as goal
+
+pub returns : goal.returns
+unfolding bad_frame
+returns c = c.stop.ensures

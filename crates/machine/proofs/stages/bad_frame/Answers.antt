@@ -1,7 +1,0 @@
--- `machine::stages::bad_frame` meets its contract.
-use Rattle.machine.specs.Machine.{bad_frame}
-use Rattle.machine.proofs.stages.bad_frame.Goals as goal
-
-pub returns : goal.returns
-unfolding bad_frame
-returns c = λ edges levels entries. c.stop.ensures edges levels entries

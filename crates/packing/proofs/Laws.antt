@@ -1,0 +1,2 @@
+-- Laws of numbers of two bytes.
+pub mod Words
