@@ -7,6 +7,7 @@ ghost use Rattle.rules.specs.Graph.{graph_of};
 ghost use Rattle.rules.specs.Rule.{rule};
 ghost use Rattle.rules.specs.Verdict.{good};
 ghost use Rattle.rules.specs.Accept.{accepts};
+ghost use Rattle.rules.specs.Numbers.{list_number};
 ghost use Rattle.rules.specs.Outcomes.{check_refusal, told};
 ghost use Rattle.relations.specs.Relations.{Frame};
 ghost use Rattle.rules.specs.Calls.{index_of, check_call};
@@ -26,6 +27,17 @@ fn differ(d: usize, one: usize, other: usize) -> bool
     !(d == one && d == other)
 }
 
+// The number that refusal 16 tells for a list.
+#[tactic(auto, unfolding(rules::specs::Numbers::list_number))]
+fn list_number(list: ClassList) -> u32
+    ensures { result ≡ list_number list }
+{
+    match list {
+        ClassList::Starts => 1,
+        ClassList::Order => 2,
+    }
+}
+
 // 16 for starts, then for order, then 17: stored lists against those of the table.
 fn check_lists(
     table: &[u32],
@@ -41,11 +53,11 @@ fn check_lists(
     let first = found.starts;
     let start_numbers = found.classes + 1;
     if differ(first, start_numbers, tables.starts.len()) {
-        return Err(Refusal::ListFault(ClassList::Starts, first as u32));
+        return Err(Refusal::ListFault(list_number(ClassList::Starts), first as u32));
     }
     let second = found.order;
     if differ(second, found.pairs, tables.order.len()) {
-        return Err(Refusal::ListFault(ClassList::Order, second as u32));
+        return Err(Refusal::ListFault(list_number(ClassList::Order), second as u32));
     }
     let Sizes { n, labels, k } = sizes;
     let progress = match_entries(edges, labels, n, k, table, area, tables.entries);

@@ -4,25 +4,14 @@
 #![tactic(auto)]
 
 ghost use Rattle.std.specs.Prelude.{◌≡◌};
-ghost use Rattle.rules.specs.Numbers.{report, list_number, of_refusal, of_built, of_checked, of_answered};
+ghost use Rattle.rules.specs.Numbers.{report, of_refusal, of_built, of_checked, of_answered};
 
-use rules::{ClassList, Counts, Refusal, Report};
+use rules::{Counts, Refusal, Report};
 
 fn numbers(number: u32, a: u32, b: u32) -> Report
     ensures { result ≡ report number a b 0 }
 {
     Report { number, a, b, c: 0 }
-}
-
-// The number that refusal 16 has for a list.
-#[tactic(auto, unfolding(rules::specs::Numbers::list_number))]
-fn list_number(list: ClassList) -> u32
-    ensures { result ≡ list_number list }
-{
-    match list {
-        ClassList::Starts => 1,
-        ClassList::Order => 2,
-    }
 }
 
 // A refusal's number and values.
@@ -46,7 +35,7 @@ pub fn report_refusal(r: Refusal) -> Report
         Refusal::AnswerRoom(need) => numbers(13, need, 0),
         Refusal::NoClass => numbers(14, 0, 0),
         Refusal::LevelFault(level, position) => numbers(15, level, position),
-        Refusal::ListFault(list, index) => numbers(16, list_number(list), index),
+        Refusal::ListFault(list, index) => numbers(16, list, index),
         Refusal::EntryFault(index) => numbers(17, index, 0),
         Refusal::Frame(line) => numbers(18, line, 0),
     }

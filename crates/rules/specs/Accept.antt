@@ -2,7 +2,6 @@
 use Rattle.std.specs.Prelude.{ℕ, zero, suc, ◌*◌, ◌<◌, min, ◌≡◌, List, Bool, true, ◌&&◌, ◌||◌, not, eqb, leb, ltb, length, get_or, take}
 use Rattle.std.specs.Bool.{beq}
 use Rattle.rules.specs.declared.Refusal.{Refusal}
-use Rattle.rules.specs.declared.ClassList.TheVariants.{Starts, Order}
 use Rattle.rules.specs.declared.Refusal.TheVariants.{LevelFault, ListFault, EntryFault}
 use Rattle.rules.specs.Finite.{first_below}
 use Rattle.rules.specs.Graph.{Graph}
@@ -66,8 +65,8 @@ top_of x = level_of x.items x.levels x.k
 unfoldable pub accepts : Rule → Graph → Index → Verdict
 accepts ρ g x =
     levels_right ρ g x.k (level_of x.items x.levels)
-    or_else same_list (starts_of (top_of x)) x.starts (ListFault Starts)
-    or_else same_list (order_of (top_of x)) x.order (ListFault Order)
+    or_else same_list (starts_of (top_of x)) x.starts (ListFault 1)
+    or_else same_list (order_of (top_of x)) x.order (ListFault 2)
     or_else same_list (entries_of g x.k (top_of x)) x.entries EntryFault
 
 -- the written conditions: every level right, and starts, order and entries exactly the lists that the stored level k gives

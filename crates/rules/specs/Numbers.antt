@@ -34,7 +34,7 @@ of_refusal TooLong = report 12 0 0 0
 of_refusal (AnswerRoom need) = report 13 need 0 0
 of_refusal NoClass = report 14 0 0 0
 of_refusal (LevelFault level position) = report 15 level position 0
-of_refusal (ListFault list index) = report 16 (list_number list) index 0
+of_refusal (ListFault list index) = report 16 list index 0
 of_refusal (EntryFault index) = report 17 index 0 0
 of_refusal (Frame line) = report 18 line 0 0
 

@@ -35,8 +35,8 @@ pub enum Refusal {
     NoClass,
     // 15: the level, and its first faulty position
     LevelFault(u32, u32),
-    // 16: the list, and the index
-    ListFault(ClassList, u32),
+    // 16: the list, 1 starts and 2 order, and the index
+    ListFault(u32, u32),
     // 17: the index in the entry list
     EntryFault(u32),
     // 18: the line of the program's input

@@ -5,7 +5,6 @@ use mathlib.Core.Path.{◌≡◌, refl, sym, ap, ◌∙◌}
 use mathlib.Core.Logic.{◌↔◌}
 use native.Mathlib.Omega.{arith}
 use Rattle.rules.specs.declared.Refusal.{Refusal}
-use Rattle.rules.specs.declared.ClassList.TheVariants.{Starts, Order}
 use Rattle.rules.specs.declared.Refusal.TheVariants.{ListFault, EntryFault}
 use Rattle.rules.specs.Graph.{Graph}
 use Rattle.rules.specs.Rule.{Rule, rule}
@@ -30,10 +29,10 @@ module _ (ρ : Rule) (g : Graph) (x : Index) where
   levels_verdict = levels_right ρ g x.k (level_of x.items x.levels)
 
   abbrev starts_verdict : Verdict
-  starts_verdict = same_list (starts_of (top_of x)) x.starts (ListFault Starts)
+  starts_verdict = same_list (starts_of (top_of x)) x.starts (ListFault 1)
 
   abbrev order_verdict : Verdict
-  order_verdict = same_list (order_of (top_of x)) x.order (ListFault Order)
+  order_verdict = same_list (order_of (top_of x)) x.order (ListFault 2)
 
   abbrev entries_verdict : Verdict
   entries_verdict = same_list (entries_of g x.k (top_of x)) x.entries EntryFault
@@ -46,8 +45,8 @@ module _ (ρ : Rule) (g : Graph) (x : Index) where
       let c = or_else_good order_verdict entries_verdict b.1 in
       record {
         levels = right_accepted ρ g (level_of x.items x.levels) x.k a.0;
-        starts = same_equal (starts_of (top_of x)) x.starts (ListFault Starts) b.0;
-        order = same_equal (order_of (top_of x)) x.order (ListFault Order) c.0;
+        starts = same_equal (starts_of (top_of x)) x.starts (ListFault 1) b.0;
+        order = same_equal (order_of (top_of x)) x.order (ListFault 2) c.0;
         entries = same_equal (entries_of g x.k (top_of x)) x.entries EntryFault c.1;
       }
 
@@ -57,9 +56,9 @@ module _ (ρ : Rule) (g : Graph) (x : Index) where
       both_good levels_verdict (starts_verdict or_else order_verdict or_else entries_verdict)
       (accepted_right ρ g (level_of x.items x.levels) x.k c.levels)
       (both_good starts_verdict (order_verdict or_else entries_verdict)
-      (equal_same (starts_of (top_of x)) x.starts (ListFault Starts) c.starts)
+      (equal_same (starts_of (top_of x)) x.starts (ListFault 1) c.starts)
       (both_good order_verdict entries_verdict
-      (equal_same (order_of (top_of x)) x.order (ListFault Order) c.order)
+      (equal_same (order_of (top_of x)) x.order (ListFault 2) c.order)
       (equal_same (entries_of g x.k (top_of x)) x.entries EntryFault c.entries)))
 
 module _ (c : CheckCall) where

@@ -5,7 +5,6 @@ use mathlib.Core.Path.{◌≡◌, refl}
 use mathlib.Core.Bool.{true, false}
 use mathlib.Core.List.{[], ◌∷◌}
 use lib.ListN.{replicate}
-use Rattle.rules.specs.declared.ClassList.TheVariants.{Starts}
 use Rattle.rules.specs.declared.Refusal.TheVariants.{Sizes, LevelCount, EdgeCount, Edge, Room, Unknown, TooLong, NoClass, ListFault}
 use Rattle.rules.specs.Finite.{any_below, all_below, first_below}
 use Rattle.rules.specs.Graph.{edge_is, has_edge, graph_of, leads, adjacent, connected}
@@ -63,8 +62,8 @@ pub record Limits : Type 0 where
   -- A: (0,0) of an item with a loop is no (0,1), whose step is the same
   pub ends_differ : agree rule (graph_of 2 1 (0 ∷ 0 ∷ 0 ∷ 1 ∷ 0 ∷ 0 ∷ 0 ∷ 1 ∷ 0 ∷ [])) 1 (level_of 2 []) 0 0 0 1 ≡ false
   -- 16: the first difference, or the shorter length
-  pub list_shorter : same_list (0 ∷ 1 ∷ []) (0 ∷ []) (ListFault Starts) ≡ refuse (ListFault Starts 1)
-  pub list_longer : same_list (0 ∷ []) (0 ∷ 1 ∷ []) (ListFault Starts) ≡ refuse (ListFault Starts 1)
+  pub list_shorter : same_list (0 ∷ 1 ∷ []) (0 ∷ []) (ListFault 1) ≡ refuse (ListFault 1 1)
+  pub list_longer : same_list (0 ∷ []) (0 ∷ 1 ∷ []) (ListFault 1) ≡ refuse (ListFault 1 1)
   -- a list written at the front leaves what stands behind it
   pub behind_unchanged : front (1 ∷ []) (7 ∷ 8 ∷ []) ≡ (1 ∷ 8 ∷ [])
 

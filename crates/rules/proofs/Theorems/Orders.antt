@@ -4,7 +4,6 @@ use Prim.Native.Nat.{ℕ}
 use mathlib.Core.Path.{◌≡◌, refl}
 use mathlib.Core.List.{List, [], ◌∷◌, ◌++◌}
 use lib.ListN.{replicate}
-use Rattle.rules.specs.declared.ClassList.TheVariants.{Starts, Order}
 use Rattle.rules.specs.declared.Refusal.TheVariants.{Sizes, LevelCount, EdgeCount, Edge, Room, QueryLength, Unknown, FewOperands, OperandsLeft, TooLong, LevelFault, ListFault}
 use Rattle.rules.specs.Finite.{any_below, all_below, first_below, list_below, table_below}
 use Rattle.rules.specs.Graph.{edge_is, has_edge, graph_of, leads, adjacent, connected}
@@ -76,8 +75,8 @@ pub record Orders : Type 0 where
   -- check: 5 15 16 17
   pub check_5_15 : (check (checking (replicate 32 0) starts order 143)).result ≡ Err Room
   pub check_15_16 : (check (checking (replicate 32 0) [] [] 144)).result ≡ Err (LevelFault 1 0)
-  pub check_16_starts_order : (check (checking (level1 ++ level2) [] [] 144)).result ≡ Err (ListFault Starts 0)
-  pub check_16_17 : (check (checking (level1 ++ level2) starts [] 144)).result ≡ Err (ListFault Order 0)
+  pub check_16_starts_order : (check (checking (level1 ++ level2) [] [] 144)).result ≡ Err (ListFault 1 0)
+  pub check_16_17 : (check (checking (level1 ++ level2) starts [] 144)).result ≡ Err (ListFault 2 0)
   -- lookup: 12, 8
   pub lookup_12_8 : lookup_bounds (0 ∷ 0 ∷ 0 ∷ 0 ∷ 0 ∷ []) [] ≡ Err TooLong
 
