@@ -4,13 +4,15 @@ use crate::faults::Fault;
 use crate::letters::{Letter, List};
 use crate::lists::Lent;
 use crate::source::Source;
+use std::io;
 use std::io::Read;
 
-// Reads the words of a list that has its length. A `while`: each turn goes on by the length of a run.
+// Reads the words of a list that has its length. Behind a word that is at fault, or that follows a fault, the rest of the list is not
+// read. A `while`: each turn goes on by the length of a run.
 fn read_words<T: Copy + TryFrom<u32>, R: Read>(
     source: &mut Source<'_, R>,
     numbers: &mut [T],
-) -> Result<(), Fault>
+) -> io::Result<()>
 where
     <T as TryFrom<u32>>::Error: Drop,
 {
@@ -18,10 +20,12 @@ where
     while at < numbers.len() {
         let run = source.next_run()?;
         let Ok(value) = T::try_from(run.value) else {
-            return Err(Fault::NoCase);
+            source.note_fault();
+            return Ok(());
         };
-        if run.many == 0 || run.many > numbers.len() - at {
-            return Err(Fault::NoCase);
+        if !source.is_sound() || run.many == 0 || run.many > numbers.len() - at {
+            source.note_fault();
+            return Ok(());
         }
         let end = at + run.many;
         for number in &mut numbers[at..end] {
@@ -35,19 +39,20 @@ where
 fn read_list<T: Copy + TryFrom<u32>, R: Read>(
     source: &mut Source<'_, R>,
     list: &mut Lent<'_, T>,
-) -> Result<(), Fault>
+) -> io::Result<()>
 where
     <T as TryFrom<u32>>::Error: Drop,
 {
     let count = source.next_number()?;
     if !list.resize(count as usize) {
-        return Err(Fault::NoCase);
+        source.note_fault();
+        return Ok(());
     }
     read_words(source, list.numbers_mut())
 }
 
 impl Case<'_> {
-    fn read<R: Read>(&mut self, list: List, source: &mut Source<'_, R>) -> Result<(), Fault> {
+    fn read<R: Read>(&mut self, list: List, source: &mut Source<'_, R>) -> io::Result<()> {
         match list {
             List::Edges => read_list(source, &mut self.edges),
             List::Levels => read_list(source, &mut self.levels),
@@ -78,5 +83,8 @@ pub fn next_case<R: Read>(
         case.read(*list, source)?;
     }
     source.expect(b'\n')?;
+    if !source.is_sound() {
+        return Err(Fault::NoCase);
+    }
     Ok(Some(letter))
 }

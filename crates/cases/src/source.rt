@@ -1,15 +1,16 @@
 // A reader, as standard input, through a lent buffer: bytes, numbers and runs.
-use crate::faults::Fault;
 use std::io;
 use std::io::Read;
 
-// The bytes of the buffer from `at` up to but without `end` are unread.
+// The bytes of the buffer from `at` up to but without `end` are unread. `sound` is false once the input has left the text form. A line
+// with a fault is read on all the same, as far as it always was: what a reader takes from a stream is seen at its other end.
 #[derive(Drop)]
 pub struct Source<'a, R: Read> {
     reader: &'a mut R,
     buffer: &'a mut [u8],
     at: usize,
     end: usize,
+    sound: bool,
 }
 
 // As many times the same number.
@@ -26,7 +27,18 @@ impl<'a, R: Read> Source<'a, R> {
             buffer,
             at: 0,
             end: 0,
+            sound: true,
         }
+    }
+
+    // Whether the input has kept to the text form.
+    pub fn is_sound(&self) -> bool {
+        self.sound
+    }
+
+    // The input has left the text form.
+    pub fn note_fault(&mut self) {
+        self.sound = false;
     }
 
     // The next byte, which stays unread; none at the end of the input.
@@ -59,12 +71,11 @@ impl<'a, R: Read> Source<'a, R> {
     }
 
     // Reads a byte that has to be there.
-    pub fn expect(&mut self, byte: u8) -> Result<(), Fault> {
-        if self.take(byte)? {
-            Ok(())
-        } else {
-            Err(Fault::NoCase)
+    pub fn expect(&mut self, byte: u8) -> io::Result<()> {
+        if !self.take(byte)? {
+            self.note_fault();
         }
+        Ok(())
     }
 
     // Reads a digit, if the next byte is one.
@@ -76,26 +87,38 @@ impl<'a, R: Read> Source<'a, R> {
         Ok(Some(u32::from(byte - b'0')))
     }
 
-    // Reads a number of 32 bits. Ten digits say every one, and an eleventh is one too many.
-    fn number(&mut self) -> Result<u32, Fault> {
-        let mut value = self.digit()?.ok_or(Fault::NoCase)?;
+    // Reads digits: their number, if there are any and it has 32 bits. Ten digits say every one, and an eleventh is one too many.
+    fn digits(&mut self) -> io::Result<Option<u32>> {
+        let mut value = self.digit()?;
+        if value.is_none() {
+            return Ok(None);
+        }
         for _ in 1..11 {
             let Some(digit) = self.digit()? else {
                 break;
             };
-            value = with_digit(value, digit).ok_or(Fault::NoCase)?;
+            value = with_digit(value, digit);
         }
         Ok(value)
     }
 
+    // A number, 0 where there is none.
+    fn number(&mut self) -> io::Result<u32> {
+        let Some(value) = self.digits()? else {
+            self.note_fault();
+            return Ok(0);
+        };
+        Ok(value)
+    }
+
     // A space and a number.
-    pub fn next_number(&mut self) -> Result<u32, Fault> {
+    pub fn next_number(&mut self) -> io::Result<u32> {
         self.expect(b' ')?;
         self.number()
     }
 
     // A space and a word of a list: a number, or as many as a run has.
-    pub fn next_run(&mut self) -> Result<Run, Fault> {
+    pub fn next_run(&mut self) -> io::Result<Run> {
         let first = self.next_number()?;
         if !self.take(b'*')? {
             return Ok(Run {
@@ -112,6 +135,6 @@ impl<'a, R: Read> Source<'a, R> {
 }
 
 // A number with one digit more, if it fits.
-fn with_digit(value: u32, digit: u32) -> Option<u32> {
-    value.checked_mul(10)?.checked_add(digit)
+fn with_digit(value: Option<u32>, digit: u32) -> Option<u32> {
+    value?.checked_mul(10)?.checked_add(digit)
 }
