@@ -3,14 +3,14 @@ use crate::case::Case;
 use crate::faults::Fault;
 use crate::letters::{Letter, List};
 use crate::lists::Lent;
-use crate::source::Source;
+use crate::source::Input;
 use std::io;
 use std::io::Read;
 
 // Reads the words of a list that has its length. Behind a word that is at fault, or that follows a fault, the rest of the list is not
 // read. A `while`: each turn goes on by the length of a run.
 fn read_words<T: Copy + TryFrom<u32>, R: Read>(
-    source: &mut Source<'_, R>,
+    input: &mut Input<'_, R>,
     numbers: &mut [T],
 ) -> io::Result<()>
 where
@@ -18,13 +18,13 @@ where
 {
     let mut at = 0;
     while at < numbers.len() {
-        let run = source.next_run()?;
+        let run = input.next_run()?;
         let Ok(value) = T::try_from(run.value) else {
-            source.note_fault();
+            input.note_fault();
             return Ok(());
         };
-        if !source.is_sound() || run.many == 0 || run.many > numbers.len() - at {
-            source.note_fault();
+        if !input.is_sound() || run.many == 0 || run.many > numbers.len() - at {
+            input.note_fault();
             return Ok(());
         }
         let end = at + run.many;
@@ -37,53 +37,53 @@ where
 }
 
 fn read_list<T: Copy + TryFrom<u32>, R: Read>(
-    source: &mut Source<'_, R>,
+    input: &mut Input<'_, R>,
     list: &mut Lent<'_, T>,
 ) -> io::Result<()>
 where
     <T as TryFrom<u32>>::Error: Drop,
 {
-    let count = source.next_number()?;
+    let count = input.next_number()?;
     if !list.resize(count as usize) {
-        source.note_fault();
+        input.note_fault();
         return Ok(());
     }
-    read_words(source, list.numbers_mut())
+    read_words(input, list.numbers_mut())
 }
 
 impl Case<'_> {
-    fn read<R: Read>(&mut self, list: List, source: &mut Source<'_, R>) -> io::Result<()> {
+    fn read<R: Read>(&mut self, list: List, input: &mut Input<'_, R>) -> io::Result<()> {
         match list {
-            List::Edges => read_list(source, &mut self.edges),
-            List::Levels => read_list(source, &mut self.levels),
-            List::Starts => read_list(source, &mut self.starts),
-            List::Order => read_list(source, &mut self.order),
-            List::Entries => read_list(source, &mut self.entries),
-            List::Tokens => read_list(source, &mut self.tokens),
-            List::Answers => read_list(source, &mut self.answers),
-            List::Area => read_list(source, &mut self.area),
+            List::Edges => read_list(input, &mut self.edges),
+            List::Levels => read_list(input, &mut self.levels),
+            List::Starts => read_list(input, &mut self.starts),
+            List::Order => read_list(input, &mut self.order),
+            List::Entries => read_list(input, &mut self.entries),
+            List::Tokens => read_list(input, &mut self.tokens),
+            List::Answers => read_list(input, &mut self.answers),
+            List::Area => read_list(input, &mut self.area),
         }
     }
 }
 
 // Reads a line, unless the input is at its end: the letter of the case.
 pub fn next_case<R: Read>(
-    source: &mut Source<'_, R>,
+    input: &mut Input<'_, R>,
     case: &mut Case<'_>,
 ) -> Result<Option<Letter>, Fault> {
-    let Some(byte) = source.peek()? else {
+    let Some(byte) = input.peek()? else {
         return Ok(None);
     };
     let letter = Letter::of(byte).ok_or(Fault::NoCase)?;
-    source.skip();
+    input.skip();
     for number in case.numbers.iter_mut().take(letter.numbers()) {
-        *number = source.next_number()?;
+        *number = input.next_number()?;
     }
     for list in letter.lists() {
-        case.read(*list, source)?;
+        case.read(*list, input)?;
     }
-    source.expect(b'\n')?;
-    if !source.is_sound() {
+    input.expect(b'\n')?;
+    if !input.is_sound() {
         return Err(Fault::NoCase);
     }
     Ok(Some(letter))

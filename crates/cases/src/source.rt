@@ -2,15 +2,21 @@
 use std::io;
 use std::io::Read;
 
-// The bytes of the buffer from `at` up to but without `end` are unread. `sound` is false once the input has left the text form. A line
-// with a fault is read on all the same, as far as it always was: what a reader takes from a stream is seen at its other end.
+// How far the buffer is read: its bytes from `at` up to but without `end` are unread. `sound` is false once the input has left the text
+// form. A line with a fault is read on all the same, as far as it always was: what a reader takes from a stream is seen at its other end.
+#[derive(Clone, Copy)]
+pub struct Source {
+    pub at: usize,
+    pub end: usize,
+    pub sound: bool,
+}
+
+// A reader with its lent buffer.
 #[derive(Drop)]
-pub struct Source<'a, R: Read> {
+pub struct Input<'a, R: Read> {
     reader: &'a mut R,
     buffer: &'a mut [u8],
-    at: usize,
-    end: usize,
-    sound: bool,
+    source: Source,
 }
 
 // As many times the same number.
@@ -20,44 +26,46 @@ pub struct Run {
     pub value: u32,
 }
 
-impl<'a, R: Read> Source<'a, R> {
-    pub fn new(reader: &'a mut R, buffer: &'a mut [u8]) -> Source<'a, R> {
-        Source {
+impl<'a, R: Read> Input<'a, R> {
+    pub fn new(reader: &'a mut R, buffer: &'a mut [u8]) -> Input<'a, R> {
+        Input {
             reader,
             buffer,
-            at: 0,
-            end: 0,
-            sound: true,
+            source: Source {
+                at: 0,
+                end: 0,
+                sound: true,
+            },
         }
     }
 
     // Whether the input has kept to the text form.
     pub fn is_sound(&self) -> bool {
-        self.sound
+        self.source.sound
     }
 
     // The input has left the text form.
     pub fn note_fault(&mut self) {
-        self.sound = false;
+        self.source.sound = false;
     }
 
     // The next byte, which stays unread; none at the end of the input.
     pub fn peek(&mut self) -> io::Result<Option<u8>> {
-        if self.at >= self.end {
-            self.end = self.reader.read(self.buffer)?;
-            self.at = 0;
+        if self.source.at >= self.source.end {
+            self.source.end = self.reader.read(self.buffer)?;
+            self.source.at = 0;
         }
-        if self.at >= self.end {
+        if self.source.at >= self.source.end {
             return Ok(None);
         }
-        let at = self.at;
+        let at = self.source.at;
         Ok(self.buffer.get(at).copied())
     }
 
     // The byte that was seen is read.
     pub fn skip(&mut self) {
-        if self.at < self.end {
-            self.at += 1;
+        if self.source.at < self.source.end {
+            self.source.at += 1;
         }
     }
 

@@ -3,7 +3,7 @@ use crate::{answer_calls, bounds, table_calls};
 use cases::case::Case;
 use cases::faults::Fault;
 use cases::letters::Letter;
-use cases::source::Source;
+use cases::source::Input;
 use cases::{printing, reading};
 use rules::Report;
 use std::io;
@@ -24,12 +24,12 @@ fn call(letter: Letter, case: &mut Case<'_>) -> Report {
 
 // A proved loop has to end, and nothing says that the input does: the lines are counted, up to a number that no run comes to.
 pub fn answer_lines<R: Read>(
-    source: &mut Source<'_, R>,
+    input: &mut Input<'_, R>,
     case: &mut Case<'_>,
     out: &mut impl Write,
 ) -> io::Result<()> {
     for _ in 0..u64::MAX {
-        match reading::next_case(source, case) {
+        match reading::next_case(input, case) {
             Ok(Some(letter)) => {
                 let report = call(letter, case);
                 printing::print_case(out, letter, report, case)?;

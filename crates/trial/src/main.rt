@@ -15,7 +15,7 @@ mod calls;
 use cases::case::Case;
 use cases::lists::Lent;
 use cases::output::Output;
-use cases::source::Source;
+use cases::source::Input;
 use std::io::Result;
 
 // A list is lent with the room that the longest of its kind takes (docs/TRIAL.md).
@@ -43,7 +43,7 @@ fn main(rt: HostRuntime) -> Result<()> {
     let mut output = [0u8; 65536];
     let mut stdin = rt.stdin();
     let mut stdout = rt.stdout();
-    let mut source = Source::new(&mut stdin, &mut input);
+    let mut source = Input::new(&mut stdin, &mut input);
     let mut out = Output::new(&mut stdout, &mut output);
     calls::answer_lines(&mut source, &mut case, &mut out)
 }
