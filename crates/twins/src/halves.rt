@@ -74,15 +74,17 @@ pub fn halves(
 fn within(list: &[u64], other: &[u64]) -> bool
     ensures { result ≡ all_below (length list.now) (has_same list.now other.now (length other.now)) }
 {
+    let mut all = true;
     'midpoints: for x in list {
-        for y in other {
+        'candidates: for y in other {
             if y == x {
                 continue 'midpoints;
             }
         }
-        return false;
+        all = false;
+        break 'midpoints;
     }
-    true
+    all
 }
 
 // The midpoints of the pair at p in every split. Answers how many.
