@@ -43,6 +43,12 @@ pub record Written (text : List ℕ) (many at : ℕ) (old new : List ℕ) : Type
   pub bytes : new ≡ sets old at text
   pub inside : at + many ≤ length old
 
+-- what a query is answered from: the level-k table and the entries lie within the lent lists, and the answer in the output
+pub record Ready (levels entries : List ℕ) (at : ℕ) (out : List ℕ) : Type 0 where
+  pub levels_lent : length levels ≡ 4096
+  pub entries_lent : length entries ≡ 4096
+  pub room : at + 4103 ≤ length out
+
 -- so many bytes of the output, from a place on, are the text; the stage, the lines and the line in hand are as they were
 pub record Adds (text : List ℕ) (many at : ℕ) (old new : Run) : Type 0 where
   pub written : Written text many at old.out new.out

@@ -4,6 +4,9 @@ use Rattle.std.proofs.lemmas.List.Edits.{sets}
 use Rattle.rules.specs.Levels.{level_of}
 use Rattle.machine.specs.declared.Progress.{Progress}
 use Rattle.machine.specs.declared.Progress.TheVariants.{Opening, Gathering, Answering, Stopped}
+use Rattle.machine.specs.declared.Moved.{Moved}
+use Rattle.machine.specs.declared.State.{State}
+use Rattle.machine.specs.declared.Taken.{Taken}
 use Rattle.machine.specs.declared.Run.{Run}
 use Rattle.machine.specs.Machine.{Stage, opening, gathering, answering, stopped, Turn, Machine, Fed}
 
@@ -25,6 +28,25 @@ line_of r = take r.held r.part
 abbrev pub machine_of : Run → Machine
 machine_of r = record { stage = stage_of r; lines = r.lines; part = line_of r }
 
+-- the same of a state and lists
+abbrev pub machine_by : State → List ℕ → List ℕ → List ℕ → List ℕ → Machine
+machine_by s part edges levels entries = record { stage = stage_by s.progress edges levels entries; lines = s.lines; part = take s.held part }
+
+-- the code's r is the turn t: the stage, and its text at the front of the output
+pub record MovedBy (t : Turn) (r : Moved) (edges levels entries old new : List ℕ) : Type 0 where
+  pub stage : stage_by r.progress edges levels entries ≡ t.stage
+  pub many : r.many ≡ length t.text
+  pub text : new ≡ sets old 0 t.text
+  pub inside : r.many ≤ length old
+
+-- the code's r is the step f: the machine, and its text at the front of the output
+pub record TakenBy (f : Fed) (r : Taken) (part edges levels entries old new : List ℕ) : Type 0 where
+  pub machine : machine_by r.state part edges levels entries ≡ f.machine
+  pub many : r.many ≡ length f.text
+  pub text : new ≡ sets old 0 f.text
+  pub inside : r.many ≤ length old
+  pub held_fits : r.state.held ≤ 512
+
 -- a turn's stage was come to, and so many bytes at the front of the output are its text; the lines and the line in hand are as they were
 pub record Comes (t : Turn) (told : ℕ) (old new : Run) : Type 0 where
   pub stage : stage_of new ≡ t.stage
@@ -40,3 +62,14 @@ pub record Steps (f : Fed) (told : ℕ) (old new : Run) : Type 0 where
   pub many : told ≡ length f.text
   pub text : new.out ≡ sets old.out 0 f.text
   pub inside : told ≤ length old.out
+
+-- the edges, the levels and the entries are as they were, used or not
+pub record SameLists (old new : Run) : Type 0 where
+  pub edges : new.edges ≡ old.edges
+  pub levels : new.levels ≡ old.levels
+  pub entries : new.entries ≡ old.entries
+
+-- the room of the line in hand is as it was, and as much of it is held
+pub record SameLine (old new : Run) : Type 0 where
+  pub part : new.part ≡ old.part
+  pub held : new.held ≡ old.held

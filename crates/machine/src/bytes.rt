@@ -1,12 +1,42 @@
 // A byte that ends no line, the run before the first byte, and whether a run has stopped.
-ghost use Rattle.std.specs.Prelude.{◌≡◌};
+ghost use Rattle.std.specs.Prelude.{◌≡◌, List, ℕ, ◌≤◌, length};
 ghost use Rattle.machine.specs.Machine.{is_stopped, beginning, keep};
-ghost use Rattle.machine.specs.Standing.{stage_of, machine_of, Steps};
+ghost use Rattle.machine.specs.Standing.{stage_of, machine_by, machine_of, TakenBy, Steps, SameLists};
 
-use crate::{EDGE_ROOM, ENTRY_ROOM, LEVEL_ROOM, OUT_ROOM, PART_ROOM, Progress, Run};
+use crate::{
+    EDGE_ROOM, ENTRY_ROOM, LEVEL_ROOM, OUT_ROOM, PART_ROOM, Progress, Run, State, Taken, stages,
+};
 
 // At most so many digits of a line.
 const MOST_DIGITS: usize = 512;
+
+// One byte more of a line; a line over 512 digits is a bad frame at once.
+pub fn keep_byte(s: State, b: u8, part: &mut [u8], out: &mut [u8]) -> Taken
+    requires { (s.held ≤ 512) × (length part.old ≡ 512) × (13 ≤ length out.old) }
+    ensures { (edges levels entries : List ℕ) → TakenBy (keep (machine_by s part.old edges levels entries) b) result part.new edges levels entries out.old out.new }
+{
+    if s.held < MOST_DIGITS {
+        part[s.held] = b;
+        return Taken {
+            state: State {
+                progress: s.progress,
+                lines: s.lines,
+                held: s.held + 1,
+            },
+            many: 0,
+        };
+    }
+    let number = s.lines.saturating_add(1);
+    let moved = stages::bad_frame(number, out);
+    Taken {
+        state: State {
+            progress: moved.progress,
+            lines: number,
+            held: 0,
+        },
+        many: moved.many,
+    }
+}
 
 impl Run {
     // No line is read yet, and nothing is held.
@@ -25,19 +55,21 @@ impl Run {
         }
     }
 
-    // One byte more of a line; a line over 512 digits is a bad frame at once. Answers how many bytes of text it left.
+    // One byte more of the line in hand. Answers how many bytes of text it left.
     pub fn keep_byte(&mut self, b: u8) -> usize
-        ensures { Steps (keep (machine_of self.old) b) result self.old self.new }
+        ensures step { Steps (keep (machine_of self.old) b) result self.old self.new }
+        ensures kept { SameLists self.old self.new }
     {
-        if self.held < MOST_DIGITS {
-            self.part[self.held] = b;
-            self.held += 1;
-            return 0;
-        }
-        self.lines = self.lines.saturating_add(1);
-        let many = self.bad_frame();
-        self.held = 0;
-        many
+        let state = State {
+            progress: self.progress,
+            lines: self.lines,
+            held: self.held,
+        };
+        let taken = keep_byte(state, b, &mut self.part, &mut self.out);
+        self.progress = taken.state.progress;
+        self.lines = taken.state.lines;
+        self.held = taken.state.held;
+        taken.many
     }
 
     // A run that has stopped reads nothing more, whatever follows.

@@ -59,6 +59,28 @@ pub enum Progress {
     Stopped,
 }
 
+// What a line came to: the progress behind it, and how many bytes of text stand at the front of the output.
+#[derive(Clone, Copy)]
+pub struct Moved {
+    pub progress: Progress,
+    pub many: usize,
+}
+
+// What is kept between two bytes beside the lists: the progress, the number of lines so far, and how many bytes of the line in hand are held.
+#[derive(Clone, Copy)]
+pub struct State {
+    pub progress: Progress,
+    pub lines: u32,
+    pub held: usize,
+}
+
+// What a byte came to: the state behind it, and how many bytes of text stand at the front of the output.
+#[derive(Clone, Copy)]
+pub struct Taken {
+    pub state: State,
+    pub many: usize,
+}
+
 // All that the run keeps: its progress, the number of lines so far, the line in hand, and the lists that it fills. A text stands at the front
 // of the output. Nothing is allocated: each list has its room from the start.
 #[derive(Drop)]

@@ -8,9 +8,10 @@ use lib.ListN.{length}
 use lib.Seq.{sets}
 use Rattle.machine.specs.declared.Progress.{Progress}
 use Rattle.machine.specs.declared.Progress.TheVariants.{Opening, Gathering, Answering, Stopped}
+use Rattle.machine.specs.declared.Moved.{Moved}
 use Rattle.machine.specs.declared.Run.{Run}
 use Rattle.machine.specs.Machine.{Turn, is_stopped, Machine, next_line, Fed, turned}
-use Rattle.machine.specs.Standing.{stage_by, stage_of, machine_of, Comes, Steps}
+use Rattle.machine.specs.Standing.{stage_by, stage_of, machine_of, MovedBy, TakenBy, Comes, Steps}
 
 -- the step is another's
 pub steps_as : {f g : Fed} {many : ℕ} {old new : Run} → g ≡ f → Steps f many old new → Steps g many old new
@@ -40,6 +41,12 @@ turned_steps m {t} {told} {old} {mid} {new} last h n o e l =
       text = l ∙ (h.text ∙ ap (λ (w : List ℕ). sets w 0 t.text) o);
       inside = omega (arith, h.inside, ap length o);
     }
+
+-- so for the function that is lent no run
+pub turned_taken : (m : Machine) {t : Turn} {part edges levels entries old new : List ℕ} (r : Moved) (number : ℕ) → MovedBy t r edges levels entries old new → number ≡ next_line m.lines
+    → TakenBy (turned m t) (record { state = record { progress = r.progress; lines = number; held = 0 }; many = r.many }) part edges levels entries old new
+unfolding turned
+turned_taken m r number h n = record { machine = rw (h.stage, n) refl; many = h.many; text = h.text; inside = h.inside; held_fits = omega arith }
 
 -- a step that does nothing
 pub still : (r : Run) → Steps (record { machine = machine_of r; text = [] }) 0 r r

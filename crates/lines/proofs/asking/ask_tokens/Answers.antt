@@ -11,4 +11,4 @@ returns c =
     let a = c.args in
     let t = a.tables in
     let s = t.sizes in
-    found_by s.items s.labels s.k _ _ _ _ _ c.table_end-to.ensures c.table_end.ensures t.some_level _ c.requires _ _ c.stored.ensures.result c.stored.ensures.answers
+    found_by s.items s.labels s.k _ _ _ _ _ c.table_end-to.ensures c.table_end.ensures t.some_level _ c.requires.2 _ _ c.stored.ensures.result c.stored.ensures.answers

@@ -7,9 +7,9 @@ use Rattle.machine.proofs.Laws.Stages.{comes_as}
 use Rattle.machine.proofs.Laws.Steps.{next_number, turned_steps}
 use Rattle.lines.proofs.steps.end_line.Goals as goal
 
-pub returns : goal.returns
+pub returns-clause-step : goal.returns-clause-step
 unfolding end_line
-returns c =
+returns-clause-step c =
     let r = c.args.run.now in
     let number : c.saturating_add-run.result ≡ next_line r.lines = next_number _ _ c.saturating_add-run.ensures in
-    turned_steps (machine_of r) _ (comes_as (ap (λ (n : ℕ). on_line (stage_of r) n (line_of r)) (sym number)) c.on_line-many.ensures) number refl refl refl
+    turned_steps (machine_of r) _ (comes_as (ap (λ (n : ℕ). on_line (stage_of r) n (line_of r)) (sym number)) c.on_line-many.ensures.turn) number refl refl refl

@@ -17,10 +17,10 @@ pub returns-then-b-eq10 : goal.returns-then-b-eq10
 unfolding byte
 returns-then-b-eq10 c =
     let on : is_stopped (stage_of c.args.run.now) ≡ false = sym c.is_stopped.ensures ∙ c.if-is_stopped.false in
-    rw (on, eq-eqb _ _ c.if-b-eq10.true) c.end_line.ensures
+    rw (on, eq-eqb _ _ c.if-b-eq10.true) c.end_line.ensures.step
 
 pub returns : goal.returns
 unfolding byte
 returns c =
     let on : is_stopped (stage_of c.args.run.now) ≡ false = sym c.is_stopped.ensures ∙ c.if-is_stopped.false in
-    rw (on, ne_eqb _ _ c.if-b-eq10.false) c.keep_byte.ensures
+    rw (on, ne_eqb _ _ c.if-b-eq10.false) c.keep_byte.ensures.step

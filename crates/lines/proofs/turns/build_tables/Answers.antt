@@ -14,7 +14,7 @@ use Rattle.lines.proofs.turns.build_tables.Goals as goal
 pub invariant_of-run : goal.invariant_of-run
 invariant_of-run c =
     let r = c.args.run.now in
-    let b = c.make_tables.ensures in
+    let b = c.make_tables.ensures.made in
     let n = c.in-Ok.counts in
     let l = levels_some _ _ _ _ r.level_room r.entry_room _ _ _ b n.classes n.pairs n.entries c.in-Ok.is in
     record {
@@ -24,11 +24,11 @@ invariant_of-run c =
       entries_fit = entries_few _ _ _ _ r.level_room r.entry_room _ _ _ b n.classes n.pairs n.entries c.in-Ok.is;
     }
 
-pub returns-in-Ok : goal.returns-in-Ok
+pub returns-in-Ok-clause-turn : goal.returns-in-Ok-clause-turn
 unfolding stage_by
-returns-in-Ok c =
+returns-in-Ok-clause-turn c =
     let r = c.args.run.now in
-    let b = c.make_tables.ensures in
+    let b = c.make_tables.ensures.made in
     let n = c.in-Ok.counts in (
       comes_as (tables_turn _ _ _ _ r.level_room r.entry_room _ _ _ b n.classes n.pairs n.entries c.in-Ok.is)
           (record {
@@ -42,8 +42,8 @@ returns-in-Ok c =
       omega arith,
     )
 
-pub returns-in-Err : goal.returns-in-Err
-returns-in-Err c =
+pub returns-in-Err-clause-turn : goal.returns-in-Err-clause-turn
+returns-in-Err-clause-turn c =
     let r = c.args.run.now in
-    let b = c.make_tables.ensures in
-    (comes_as (refused_turn _ _ _ _ r.level_room r.entry_room _ _ _ b _ c.in-Err.is) (made_comes b c.stop.ensures), stop_few _ c.stop.ensures)
+    let b = c.make_tables.ensures.made in
+    (comes_as (refused_turn _ _ _ _ r.level_room r.entry_room _ _ _ b _ c.in-Err.is) (made_comes b c.stop.ensures.turn), stop_few _ c.stop.ensures.turn)

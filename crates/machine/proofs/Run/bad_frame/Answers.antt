@@ -1,7 +1,7 @@
 -- `machine::Run::bad_frame` meets its contract.
-use Rattle.machine.specs.Machine.{bad_frame}
+use mathlib.Core.Path.{refl}
+use Rattle.machine.proofs.Laws.Stages.{comes_by}
 use Rattle.machine.proofs.Run.bad_frame.Goals as goal
 
-pub returns : goal.returns
-unfolding bad_frame
-returns c = c.stop.ensures
+pub returns-clause-turn : goal.returns-clause-turn
+returns-clause-turn c = comes_by _ _ (c.bad_frame-moved.ensures _ _ _) refl refl refl
