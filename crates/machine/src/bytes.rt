@@ -55,11 +55,17 @@ impl Run {
         }
     }
 
-    // One byte more of the line in hand. Answers how many bytes of text it left.
+    // One byte more of the line in hand. Answers how many bytes of text it left. A byte that has room is kept in place, for this is done for each
+    // byte of the input, and the whole state would be copied for it.
     pub fn keep_byte(&mut self, b: u8) -> usize
         ensures step { Steps (keep (machine_of self.old) b) result self.old self.new }
         ensures kept { SameLists self.old self.new }
     {
+        if self.held < MOST_DIGITS {
+            self.part[self.held] = b;
+            self.held += 1;
+            return 0;
+        }
         let state = State {
             progress: self.progress,
             lines: self.lines,

@@ -1,16 +1,18 @@
 -- The steps of the machine, by the tests of the code.
-use Prim.Native.Nat.{ℕ, ◌+◌, min}
-use mathlib.Core.Path.{◌≡◌, refl, ap, ◌∙◌}
-use mathlib.Core.List.{List, []}
+use Prim.Native.Nat.{ℕ, ◌+◌, ◌<◌, min}
+use mathlib.Core.Path.{◌≡◌, refl, sym, ap, ◌∙◌}
+use mathlib.Core.List.{List, [], ◌∷◌, ◌++◌}
 use mathlib.Core.Bool.{false}
+use native.Mathlib.Numerals.{add-one}
 use native.Mathlib.Omega.{arith}
-use lib.ListN.{length}
-use lib.Seq.{sets}
+use borrow.Author.Tests.{lt-ltb}
+use lib.ListN.{length, set, take}
+use lib.Seq.{sets, take-suc-set, length-take-le}
 use Rattle.machine.specs.declared.Progress.{Progress}
 use Rattle.machine.specs.declared.Progress.TheVariants.{Opening, Gathering, Answering, Stopped}
 use Rattle.machine.specs.declared.Moved.{Moved}
 use Rattle.machine.specs.declared.Run.{Run}
-use Rattle.machine.specs.Machine.{Turn, is_stopped, Machine, next_line, Fed, turned}
+use Rattle.machine.specs.Machine.{Stage, Turn, is_stopped, Machine, next_line, Fed, turned, keep}
 use Rattle.machine.specs.Standing.{stage_by, stage_of, machine_of, MovedBy, TakenBy, Comes, Steps}
 
 -- the step is another's
@@ -29,6 +31,15 @@ reads_on Stopped edges levels entries h = absurd (h refl)
 pub next_number : (number lines : ℕ) → number ≡ min (lines + 1) 4294967295 → number ≡ next_line lines
 unfolding next_line
 next_number number lines e = omega (arith, e)
+
+-- a byte is kept behind those that are held
+pub keep_more : (s : Stage) (lines held : ℕ) (part : List ℕ) (b : ℕ) → length part ≡ 512 → held < 512
+    → keep (record { stage = s; lines = lines; part = take held part }) b ≡ record { machine = record { stage = s; lines = lines; part = take (held + 1) (set part held b) }; text = [] }
+unfolding keep
+keep_more s lines held part b n h =
+    let few : length (take held part) < 512 = omega (arith, length-take-le held part (omega (arith, n, h)), h) in
+    let more : take held part ++ (b ∷ []) ≡ take (held + 1) (set part held b) = sym (ap (λ (k : ℕ). take k (set part held b)) (add-one held) ∙ take-suc-set part held b (omega (arith, n, h))) in
+    rw (lt-ltb (length (take held part)) 512 few, more) refl
 
 -- a line ends as its turn says: its number is counted, and nothing is held behind it
 pub turned_steps : (m : Machine) {t : Turn} {told : ℕ} {old mid new : Run} (last : Run) → Comes t told mid new → mid.lines ≡ next_line m.lines → mid.out ≡ old.out

@@ -1,36 +1,21 @@
 -- `machine::bytes::keep_byte` meets its contract.
-use Prim.Native.Nat.{ℕ, ◌<◌, ◌≤◌}
-use mathlib.Core.Path.{◌≡◌, refl, sym, ap, ◌∙◌}
-use mathlib.Core.List.{List}
-use native.Mathlib.Numerals.{add-one}
+use Prim.Native.Nat.{◌≤◌}
+use mathlib.Core.Path.{◌≡◌, refl, sym, ap}
 use native.Mathlib.Omega.{arith}
-use borrow.Author.Tests.{lt-ltb, le-ltb}
-use lib.ListN.{length, set, take}
-use lib.Seq.{take-suc-set, length-take-le}
+use borrow.Author.Tests.{le-ltb}
+use lib.ListN.{length, take}
+use lib.Seq.{length-take-le}
 use Rattle.machine.specs.Machine.{bad_frame, next_line, keep}
-use Rattle.machine.specs.Standing.{stage_by, machine_by}
+use Rattle.machine.specs.Standing.{machine_by}
 use Rattle.machine.proofs.Laws.Stages.{moved_as}
-use Rattle.machine.proofs.Laws.Steps.{next_number, turned_taken}
+use Rattle.machine.proofs.Laws.Steps.{next_number, keep_more, turned_taken}
 use Rattle.machine.proofs.bytes.keep_byte.Goals as goal
 
 pub returns-then-s-lt-MOST_DIGITS : goal.returns-then-s-lt-MOST_DIGITS
-unfolding keep
 returns-then-s-lt-MOST_DIGITS c =
     λ edges levels entries.
-    let a = c.args in
-    let s = a.s in
-    let part = a.part.now in
-    let few : length (take s.held part) < 512 = omega (arith, length-take-le s.held part (omega (arith, c.requires.1)), c.if-s-lt-MOST_DIGITS.true) in
-    rw (lt-ltb (length (take s.held part)) 512 few)
-    (record {
-      machine =
-          ap (λ (l : List ℕ). record { stage = stage_by s.progress edges levels entries; lines = s.lines; part = l })
-          (ap (λ (k : ℕ). take k (set part s.held a.b)) (add-one s.held) ∙ take-suc-set part s.held a.b (omega (arith, c.requires.1, c.if-s-lt-MOST_DIGITS.true)));
-      many = refl;
-      text = refl;
-      inside = omega arith;
-      held_fits = omega (arith, c.if-s-lt-MOST_DIGITS.true);
-    })
+    rw (keep_more _ c.args.s.lines c.args.s.held c.args.part.now c.args.b c.requires.1 (omega (arith, c.if-s-lt-MOST_DIGITS.true)))
+    (record { machine = refl; many = refl; text = refl; inside = omega arith; held_fits = omega (arith, c.if-s-lt-MOST_DIGITS.true) })
 
 pub returns : goal.returns
 unfolding keep
