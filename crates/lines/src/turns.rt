@@ -18,7 +18,7 @@ const BUILT_BYTES: usize = 15;
 // The tables, in the program's room. Starts, order and the working area do not outlive the call: queries read only levels and entries.
 fn make_tables(run: &mut Run, gathered: Gathered) -> Result<Counts, Refusal>
     ensures made { Made (call_of gathered.sizes (take (3 * gathered.edges) run.old.edges) run.old.levels run.old.entries) result run.old run.new }
-    ensures kept { (run.new.edges ≡ run.old.edges) × SameLine run.old run.new }
+    ensures kept { (run.new.progress ≡ run.old.progress) × (run.new.edges ≡ run.old.edges) × SameLine run.old run.new }
 {
     let mut starts = [0; 1025];
     let mut order = [0; 1024];
