@@ -7,13 +7,15 @@ ghost use Rattle.numbering.specs.Needs.{Begun, Taken, Positioned, Numbered};
 ghost use Rattle.twins.specs.Skips.{Laid};
 
 use super::chains::{add_head, bucket, clear_heads, find_alike};
+use twins::halves::midpoints;
 use twins::kept::Kept;
 use twins::near::mark_near;
 use twins::over::Over;
 use twins::skips::lay_out;
 
 // The number of position p, where the numbers before it stand and top is the largest of them: that of an earlier position
-// that agrees, or a new one. Only positions of the same bucket are compared: alike positions share it.
+// that agrees, or a new one. Only positions of the same bucket are compared: alike positions share it. The midpoints of p are listed anew,
+// and asked for once.
 fn next_number(
     n: usize,
     i: usize,
@@ -21,19 +23,20 @@ fn next_number(
     area: &mut [u8],
     p: usize,
     top: u32,
-    mine: &mut Kept,
+    mine: &mut [u64],
     other: &mut Kept,
 ) -> u32
-    requires { (Ready n i levels.now area.old) × (Near n i area.old) × (Begun n i levels.now area.old p top) × (p < n * n) × (Chains (is_in n i area.old) (alike n i levels.now area.old) (bucket_of n i levels.now area.old) n area.old p) × (Laid n i levels.now area.old) × (Held n i levels.now mine.old) × (Held n i levels.now other.old) }
-    ensures { (Taken n i levels.now area.old p result area.new) × (Held n i levels.now mine.new) × (Held n i levels.now other.new) }
+    requires { (Ready n i levels.now area.old) × (Near n i area.old) × (Begun n i levels.now area.old p top) × (p < n * n) × (Chains (is_in n i area.old) (alike n i levels.now area.old) (bucket_of n i levels.now area.old) n area.old p) × (Laid n i levels.now area.old) × (384 ≤ length mine.old) × (Held n i levels.now other.old) }
+    ensures { (Taken n i levels.now area.old p result area.new) × (Held n i levels.now other.new) }
 {
     if area[n * n + p] == 0 {
         return 0;
     }
     let over = Over { n, i, levels, area };
-    mine.keep(over, p);
-    let b = bucket(over.steps(), p, mine.midpoints());
-    if let Some(q) = find_alike(over, p, b, mine.midpoints(), other) {
+    let many = midpoints(over, p, mine);
+    let list = &mine[..many];
+    let b = bucket(over.steps(), p, list);
+    if let Some(q) = find_alike(over, p, b, list, other) {
         return levels[(i - 1) * (n * n) + q];
     }
     add_head(n, area, b, p);
@@ -46,7 +49,7 @@ fn number_positions(n: usize, i: usize, levels: &mut [u32], area: &mut [u8]) -> 
     ensures { Positioned n i levels.old area.old result levels.new area.new }
 {
     let start = (i - 1) * (n * n);
-    let mut mine = Kept::new();
+    let mut mine = [0; 384];
     let mut other = Kept::new();
     let mut top: u32 = 0;
     for p in 0..n * n {

@@ -26,7 +26,6 @@ loop-p-init c = record {
   written = sym (put_none _ _);
   chains = c.requires.2;
   steady = steady_refl _ _;
-  mine = c.new-mine.ensures _ _ _;
   other = c.new-other.ensures _ _ _;
 }
 
@@ -40,7 +39,7 @@ next_number-k-requires c =
       c.loop-p-test.true,
       turn_chains _ _ _ _ r _ _ i.written c.loop-p.auto.p-end _ i.steady _ _ i.chains,
       turn_laid _ _ _ _ r _ _ i.written c.loop-p.auto.p-end _ i.steady c.requires.3,
-      held_kept _ _ _ _ _ (same_below _ _ _ _ r _ _ i.written c.loop-p.auto.p-end) i.mine,
+      omega arith,
       held_kept _ _ _ _ _ (same_below _ _ _ _ r _ _ i.written c.loop-p.auto.p-end) i.other,
     )
 
@@ -77,8 +76,7 @@ loop-p-preserved c =
       written = write_next _ _ _ _ r _ _ i.written c.loop-p.auto.p-end k q c.loop-p-test.true;
       chains = turn_back _ _ _ _ r _ _ i.written c.loop-p.auto.p-end _ i.steady _ _ d.chains;
       steady = steady_trans _ _ _ _ i.steady d.steady;
-      mine = held_kept _ _ _ _ _ (λ j h. sym (same_below _ _ _ _ r _ _ i.written c.loop-p.auto.p-end j h)) c.next_number-k.ensures.1;
-      other = held_kept _ _ _ _ _ (λ j h. sym (same_below _ _ _ _ r _ _ i.written c.loop-p.auto.p-end j h)) c.next_number-k.ensures.2;
+      other = held_kept _ _ _ _ _ (λ j h. sym (same_below _ _ _ _ r _ _ i.written c.loop-p.auto.p-end j h)) c.next_number-k.ensures.1;
     }
 
 pub returns : goal.returns

@@ -16,6 +16,5 @@ invariant-loop-p l = record {
   written : l.levels ≡ put l.initial.levels (base l.n l.i) (numbering (is_in l.n l.i l.initial.area) (alike l.n l.i l.initial.levels l.initial.area) l.p);
   chains : Chains (is_in l.n l.i l.initial.area) (alike l.n l.i l.initial.levels l.initial.area) (bucket_of l.n l.i l.initial.levels l.initial.area) l.n l.area l.p;
   steady : Steady l.n l.initial.area l.area;
-  mine : Held l.n l.i l.initial.levels l.mine;
   other : Held l.n l.i l.initial.levels l.other;
 }
