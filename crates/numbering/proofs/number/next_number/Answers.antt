@@ -43,5 +43,5 @@ returns c =
     let b = rw (c.steps.ensures.0, c.steps.ensures.1) at c.bucket-b.ensures in (
       taken_new _ _ _ _ _ _ c.requires.2 c.requires.3 c.requires.4 (byte_set _ (c.requires.1.byte_at c.args.p c.requires.3) c.if-area-n-eq0.false) c.find_alike.ensures.0
           _ _ c.requires.0.area_room (b.0 _ _ list, b.1) c.in_default.is c.add_head.ensures,
-          c.find_alike.ensures.1,
+      c.find_alike.ensures.1,
     )
