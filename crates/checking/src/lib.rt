@@ -27,7 +27,7 @@ fn differ(d: usize, one: usize, other: usize) -> bool
     !(d == one && d == other)
 }
 
-// The number that refusal 16 tells for a list.
+// The number that refusal 16 tells for a list. The refusal holds the number and no `ClassList`: a report answers for any number.
 #[tactic(auto, unfolding(rules::specs::Numbers::list_number))]
 fn list_number(list: ClassList) -> u32
     ensures { result ≡ list_number list }
