@@ -52,6 +52,18 @@ where
 }
 
 impl Case<'_> {
+    // No list has a number.
+    fn clear(&mut self) {
+        self.edges.resize(0);
+        self.levels.resize(0);
+        self.starts.resize(0);
+        self.order.resize(0);
+        self.entries.resize(0);
+        self.tokens.resize(0);
+        self.answers.resize(0);
+        self.area.resize(0);
+    }
+
     fn read<R: Read>(&mut self, list: List, input: &mut Input<'_, R>) -> io::Result<()> {
         match list {
             List::Edges => read_list(input, &mut self.edges),
@@ -66,7 +78,7 @@ impl Case<'_> {
     }
 }
 
-// Reads a line, unless the input is at its end: the letter of the case.
+// Reads a line, unless the input is at its end: the letter of the case. Lists that the letter does not have are empty.
 pub fn next_case<R: Read>(
     input: &mut Input<'_, R>,
     case: &mut Case<'_>,
@@ -76,6 +88,7 @@ pub fn next_case<R: Read>(
     };
     let letter = Letter::of(byte).ok_or(Fault::NoCase)?;
     input.skip();
+    case.clear();
     for number in case.numbers.iter_mut().take(letter.numbers()) {
         *number = input.next_number()?;
     }
