@@ -1,3 +1,4 @@
+-- Each turn puts the next number of the numbering in its place, and the chains have the positions before.
 use Prim.Native.Nat.{◌+◌, ◌*◌, ◌≤◌}
 use mathlib.Core.Path.{◌≡◌, refl, sym, ◌∙◌}
 use native.Mathlib.Omega.{arith}

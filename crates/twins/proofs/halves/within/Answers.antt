@@ -1,3 +1,4 @@
+-- Where a twin is found the next midpoint comes; where none is, the answer is false, and true behind the last midpoint.
 use mathlib.Core.Path.{refl, sym, ◌∙◌}
 use Rattle.rules.proofs.Laws.Loops.{any_start, all_start, any_more, all_more, any_done, all_done, all_not_at}
 use Rattle.twins.proofs.Laws.Halves.{same_no, found_same, none_same}
