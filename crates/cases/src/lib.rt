@@ -15,7 +15,9 @@ pub mod letters;
 pub mod lists;
 // a case: its numbers and its lists
 pub mod case;
-// from a line to a case
+// from a line to a case, up to the first fault
 pub mod reading;
+// from a line to a case, read on behind a fault
+pub mod reading_on;
 // from a case to a line
 pub mod printing;

@@ -1,31 +1,31 @@
-// From a line to a case: the numbers that the entry takes, then each list as its count, numbers and runs.
+// From a line to a case: the numbers that the entry takes, then each list as its count, numbers and runs. A fault is answered, and not noted;
+// nothing behind it is read, so that a caller may go on from there.
+ghost use Rattle.std.specs.Prelude.{◌≡◌};
+
 use crate::case::Case;
 use crate::faults::Fault;
 use crate::letters::{Letter, List};
 use crate::lists::Lent;
 use crate::source::Input;
-use std::io;
 use std::io::Read;
 
-// Reads the words of a list that has its length. Behind a word that is at fault, or that follows a fault, the rest of the list is not
-// read. A `while`: each turn goes on by the length of a run.
+// Reads the words of a list that has its length. A `while`: each turn goes on by the length of a run.
 fn read_words<T: Copy + TryFrom<u32>, R: Read>(
     input: &mut Input<'_, R>,
     numbers: &mut [T],
-) -> io::Result<()>
+) -> Result<(), Fault>
 where
     <T as TryFrom<u32>>::Error: Drop,
+    ensures kept { input.new.source.sound ≡ input.old.source.sound }
 {
     let mut at = 0;
     while at < numbers.len() {
         let run = input.next_run()?;
         let Ok(value) = T::try_from(run.value) else {
-            input.note_fault();
-            return Ok(());
+            return Err(Fault::NoCase);
         };
-        if !input.is_sound() || run.many == 0 || run.many > numbers.len() - at {
-            input.note_fault();
-            return Ok(());
+        if run.many == 0 || run.many > numbers.len() - at {
+            return Err(Fault::NoCase);
         }
         let end = at + run.many;
         for number in &mut numbers[at..end] {
@@ -39,32 +39,22 @@ where
 fn read_list<T: Copy + TryFrom<u32>, R: Read>(
     input: &mut Input<'_, R>,
     list: &mut Lent<'_, T>,
-) -> io::Result<()>
+) -> Result<(), Fault>
 where
     <T as TryFrom<u32>>::Error: Drop,
+    ensures kept { input.new.source.sound ≡ input.old.source.sound }
 {
     let count = input.next_number()?;
     if !list.resize(count as usize) {
-        input.note_fault();
-        return Ok(());
+        return Err(Fault::NoCase);
     }
     read_words(input, list.numbers_mut())
 }
 
 impl Case<'_> {
-    // No list has a number.
-    fn clear(&mut self) {
-        self.edges.resize(0);
-        self.levels.resize(0);
-        self.starts.resize(0);
-        self.order.resize(0);
-        self.entries.resize(0);
-        self.tokens.resize(0);
-        self.answers.resize(0);
-        self.area.resize(0);
-    }
-
-    fn read<R: Read>(&mut self, list: List, input: &mut Input<'_, R>) -> io::Result<()> {
+    fn read<R: Read>(&mut self, list: List, input: &mut Input<'_, R>) -> Result<(), Fault>
+        ensures kept { input.new.source.sound ≡ input.old.source.sound }
+    {
         match list {
             List::Edges => read_list(input, &mut self.edges),
             List::Levels => read_list(input, &mut self.levels),
@@ -78,17 +68,18 @@ impl Case<'_> {
     }
 }
 
-// Reads a line, unless the input is at its end: the letter of the case. Lists that the letter does not have are empty.
+// Reads a line, unless the input is at its end: the letter of the case.
 pub fn next_case<R: Read>(
     input: &mut Input<'_, R>,
     case: &mut Case<'_>,
-) -> Result<Option<Letter>, Fault> {
+) -> Result<Option<Letter>, Fault>
+    ensures kept { input.new.source.sound ≡ input.old.source.sound }
+{
     let Some(byte) = input.peek()? else {
         return Ok(None);
     };
     let letter = Letter::of(byte).ok_or(Fault::NoCase)?;
     input.skip();
-    case.clear();
     for number in case.numbers.iter_mut().take(letter.numbers()) {
         *number = input.next_number()?;
     }
@@ -96,8 +87,47 @@ pub fn next_case<R: Read>(
         case.read(*list, input)?;
     }
     input.expect(b'\n')?;
-    if !input.is_sound() {
-        return Err(Fault::NoCase);
-    }
     Ok(Some(letter))
+}
+
+#[cfg(test)]
+mod tests {
+    use super::*;
+
+    // The first line is at fault in its second list, for which there is no room: what stands before the fault is read, and the reader stands behind
+    // it. The line's end is passed, and the next line is read; a list that its letter does not have stays.
+    #[test]
+    fn a_line_behind_a_fault(rt: HostRuntime) {
+        let mut edges = [0u32; 4];
+        let mut levels = [0u32; 4];
+        let mut starts = [0u32; 4];
+        let mut order = [0u32; 4];
+        let mut entries = [0u32; 4];
+        let mut tokens = [0u8; 4];
+        let mut answers = [0u32; 4];
+        let mut area = [0u8; 4];
+        let mut case = Case {
+            numbers: [0; 3],
+            edges: Lent::new(&mut edges),
+            levels: Lent::new(&mut levels),
+            starts: Lent::new(&mut starts),
+            order: Lent::new(&mut order),
+            entries: Lent::new(&mut entries),
+            tokens: Lent::new(&mut tokens),
+            answers: Lent::new(&mut answers),
+            area: Lent::new(&mut area),
+        };
+        let mut text: &[u8] = b"P 6 2 2*5 5\nL 2 1 3 0\n";
+        let mut buffer = [0u8; 8];
+        let mut input = Input::new(&mut text, &mut buffer);
+        assert!(rt; matches!(next_case(&mut input, &mut case), Err(Fault::NoCase)));
+        assert_eq!(rt; case.numbers, [6, 0, 0]);
+        assert_eq!(rt; case.starts.numbers(), [5, 5].as_slice());
+        assert!(rt; matches!(input.expect(b'\n'), Ok(())));
+        assert!(rt; matches!(next_case(&mut input, &mut case), Ok(Some(Letter::Lookup))));
+        assert_eq!(rt; case.tokens.numbers(), [1, 3].as_slice());
+        assert_eq!(rt; case.starts.numbers(), [5, 5].as_slice());
+        assert!(rt; matches!(next_case(&mut input, &mut case), Ok(None)));
+        assert!(rt; input.is_sound());
+    }
 }

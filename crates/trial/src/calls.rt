@@ -4,7 +4,7 @@ use cases::case::Case;
 use cases::faults::Fault;
 use cases::letters::Letter;
 use cases::source::Input;
-use cases::{printing, reading};
+use cases::{printing, reading_on};
 use rules::Report;
 use std::io;
 use std::io::{Read, Write};
@@ -29,7 +29,7 @@ pub fn answer_lines<R: Read>(
     out: &mut impl Write,
 ) -> io::Result<()> {
     for _ in 0..u64::MAX {
-        match reading::next_case(input, case) {
+        match reading_on::next_case_or_note(input, case) {
             Ok(Some(letter)) => {
                 let report = call(letter, case);
                 printing::print_case(out, letter, report, case)?;
