@@ -1,6 +1,7 @@
 // From a line to a case: the numbers that the entry takes, then each list as its count, numbers and runs. A fault is answered, and not noted;
 // nothing behind it is read, so that a caller may go on from there.
 ghost use Rattle.std.specs.Prelude.{◌≡◌};
+ghost use Rattle.cases.specs.Noting.{is_sound};
 
 use crate::case::Case;
 use crate::faults::Fault;
@@ -16,7 +17,7 @@ fn read_words<T: Copy + TryFrom<u32>, R: Read>(
 ) -> Result<(), Fault>
 where
     <T as TryFrom<u32>>::Error: Drop,
-    ensures kept { input.new.source.sound ≡ input.old.source.sound }
+    ensures kept { is_sound input.new ≡ is_sound input.old }
 {
     let mut at = 0;
     while at < numbers.len() {
@@ -42,7 +43,7 @@ fn read_list<T: Copy + TryFrom<u32>, R: Read>(
 ) -> Result<(), Fault>
 where
     <T as TryFrom<u32>>::Error: Drop,
-    ensures kept { input.new.source.sound ≡ input.old.source.sound }
+    ensures kept { is_sound input.new ≡ is_sound input.old }
 {
     let count = input.next_number()?;
     if !list.resize(count as usize) {
@@ -53,7 +54,7 @@ where
 
 impl Case<'_> {
     fn read<R: Read>(&mut self, list: List, input: &mut Input<'_, R>) -> Result<(), Fault>
-        ensures kept { input.new.source.sound ≡ input.old.source.sound }
+        ensures kept { is_sound input.new ≡ is_sound input.old }
     {
         match list {
             List::Edges => read_list(input, &mut self.edges),
@@ -73,7 +74,7 @@ pub fn next_case<R: Read>(
     input: &mut Input<'_, R>,
     case: &mut Case<'_>,
 ) -> Result<Option<Letter>, Fault>
-    ensures kept { input.new.source.sound ≡ input.old.source.sound }
+    ensures kept { is_sound input.new ≡ is_sound input.old }
 {
     let Some(byte) = input.peek()? else {
         return Ok(None);

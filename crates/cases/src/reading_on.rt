@@ -1,5 +1,8 @@
-// From a line to a case, as in `reading`; but a fault is noted, and the line is read on all the same, as far as it always was: what a reader
-// takes from a stream is seen at its other end.
+// From a line to a case, as in `reading`; but a fault behind the letter is noted, and the line is read on all the same, as far as it always was:
+// what a reader takes from a stream is seen at its other end.
+ghost use Rattle.std.specs.Prelude.{◌≡◌, true, IfOk, OnSome};
+ghost use Rattle.cases.specs.Noting.{is_sound};
+
 use crate::case::Case;
 use crate::faults::Fault;
 use crate::letters::{Letter, List};
@@ -83,7 +86,9 @@ impl Case<'_> {
 pub fn next_case_or_note<R: Read>(
     input: &mut Input<'_, R>,
     case: &mut Case<'_>,
-) -> Result<Option<Letter>, Fault> {
+) -> Result<Option<Letter>, Fault>
+    ensures told { IfOk result (λ found. OnSome found (is_sound input.new ≡ true)) }
+{
     let Some(byte) = input.peek()? else {
         return Ok(None);
     };
@@ -101,4 +106,51 @@ pub fn next_case_or_note<R: Read>(
         return Err(Fault::NoCase);
     }
     Ok(Some(letter))
+}
+
+#[cfg(test)]
+mod tests {
+    use super::*;
+
+    // Behind a case stands a line with nothing behind its number: it is read to its end all the same, the list of the case before is empty, and no
+    // line that follows is a case.
+    #[test]
+    fn a_line_that_is_read_on(rt: HostRuntime) {
+        let mut edges = [0u32; 4];
+        let mut levels = [0u32; 4];
+        let mut starts = [0u32; 4];
+        let mut order = [0u32; 4];
+        let mut entries = [0u32; 4];
+        let mut tokens = [0u8; 4];
+        let mut answers = [0u32; 4];
+        let mut area = [0u8; 4];
+        let mut case = Case {
+            numbers: [0; 3],
+            edges: Lent::new(&mut edges),
+            levels: Lent::new(&mut levels),
+            starts: Lent::new(&mut starts),
+            order: Lent::new(&mut order),
+            entries: Lent::new(&mut entries),
+            tokens: Lent::new(&mut tokens),
+            answers: Lent::new(&mut answers),
+            area: Lent::new(&mut area),
+        };
+        let mut text: &[u8] = b"L 2 1 3 0\nP 6\nL 0 0\n";
+        let mut buffer = [0u8; 8];
+        let mut input = Input::new(&mut text, &mut buffer);
+        assert!(rt;
+            matches!(
+                next_case_or_note(&mut input, &mut case),
+                Ok(Some(Letter::Lookup))
+            )
+        );
+        assert_eq!(rt; case.tokens.numbers(), [1, 3].as_slice());
+        assert!(rt; matches!(next_case_or_note(&mut input, &mut case), Err(Fault::NoCase)));
+        assert_eq!(rt; case.numbers, [6, 0, 0]);
+        assert!(rt; case.tokens.numbers().is_empty());
+        assert!(rt; matches!(input.peek(), Ok(Some(b'L'))));
+        assert!(rt; matches!(next_case_or_note(&mut input, &mut case), Err(Fault::NoCase)));
+        assert!(rt; matches!(next_case_or_note(&mut input, &mut case), Ok(None)));
+        assert!(rt; !input.is_sound());
+    }
 }

@@ -1,6 +1,7 @@
 // A reader, as standard input, through a lent buffer: bytes, numbers and runs.
 // What may be at fault is read in two ways: `expect` and its like answer a fault; `expect_or_note` and its like note it, and read on.
-ghost use Rattle.std.specs.Prelude.{◌≡◌, false};
+ghost use Rattle.std.specs.Prelude.{◌≡◌, true, false};
+ghost use Rattle.cases.specs.Noting.{is_sound};
 
 use crate::faults::Fault;
 use std::io;
@@ -31,7 +32,9 @@ pub struct Run {
 }
 
 impl<'a, R: Read> Input<'a, R> {
-    pub fn new(reader: &'a mut R, buffer: &'a mut [u8]) -> Input<'a, R> {
+    pub fn new(reader: &'a mut R, buffer: &'a mut [u8]) -> Input<'a, R>
+        ensures { is_sound result ≡ true }
+    {
         Input {
             reader,
             buffer,
@@ -45,21 +48,21 @@ impl<'a, R: Read> Input<'a, R> {
 
     // Whether the input has kept to the text form, as far as faults were noted.
     pub fn is_sound(&self) -> bool
-        ensures { result ≡ self.now.source.sound }
+        ensures { result ≡ is_sound self.now }
     {
         self.source.sound
     }
 
     // The input has left the text form.
     pub fn note_fault(&mut self)
-        ensures { self.new.source.sound ≡ false }
+        ensures { is_sound self.new ≡ false }
     {
         self.source.sound = false;
     }
 
     // The next byte, which stays unread; none at the end of the input.
     pub fn peek(&mut self) -> io::Result<Option<u8>>
-        ensures kept { self.new.source.sound ≡ self.old.source.sound }
+        ensures kept { is_sound self.new ≡ is_sound self.old }
     {
         if self.source.at >= self.source.end {
             self.source.end = self.reader.read(self.buffer)?;
@@ -74,7 +77,7 @@ impl<'a, R: Read> Input<'a, R> {
 
     // The byte that was seen is read.
     pub fn skip(&mut self)
-        ensures kept { self.new.source.sound ≡ self.old.source.sound }
+        ensures kept { is_sound self.new ≡ is_sound self.old }
     {
         if self.source.at < self.source.end {
             self.source.at += 1;
@@ -83,7 +86,7 @@ impl<'a, R: Read> Input<'a, R> {
 
     // Reads a byte if it is the next one, and says whether it was.
     fn take(&mut self, byte: u8) -> io::Result<bool>
-        ensures kept { self.new.source.sound ≡ self.old.source.sound }
+        ensures kept { is_sound self.new ≡ is_sound self.old }
     {
         let found = self.peek()? == Some(byte);
         if found {
@@ -94,7 +97,7 @@ impl<'a, R: Read> Input<'a, R> {
 
     // Reads a digit, if the next byte is one.
     fn digit(&mut self) -> io::Result<Option<u32>>
-        ensures kept { self.new.source.sound ≡ self.old.source.sound }
+        ensures kept { is_sound self.new ≡ is_sound self.old }
     {
         let Some(byte @ b'0'..=b'9') = self.peek()? else {
             return Ok(None);
@@ -108,7 +111,7 @@ impl<'a, R: Read> Input<'a, R> {
 impl<'a, R: Read> Input<'a, R> {
     // Reads a byte that has to be there.
     pub fn expect(&mut self, byte: u8) -> Result<(), Fault>
-        ensures kept { self.new.source.sound ≡ self.old.source.sound }
+        ensures kept { is_sound self.new ≡ is_sound self.old }
     {
         if self.take(byte)? {
             Ok(())
@@ -119,7 +122,7 @@ impl<'a, R: Read> Input<'a, R> {
 
     // A number of 32 bits. Ten digits say every one, and an eleventh is one too many.
     fn number(&mut self) -> Result<u32, Fault>
-        ensures kept { self.new.source.sound ≡ self.old.source.sound }
+        ensures kept { is_sound self.new ≡ is_sound self.old }
     {
         let mut value = self.digit()?.ok_or(Fault::NoCase)?;
         for _ in 1..11 {
@@ -133,7 +136,7 @@ impl<'a, R: Read> Input<'a, R> {
 
     // A space and a number.
     pub fn next_number(&mut self) -> Result<u32, Fault>
-        ensures kept { self.new.source.sound ≡ self.old.source.sound }
+        ensures kept { is_sound self.new ≡ is_sound self.old }
     {
         self.expect(b' ')?;
         self.number()
@@ -141,7 +144,7 @@ impl<'a, R: Read> Input<'a, R> {
 
     // A space and a word of a list: a number, or as many as a run has.
     pub fn next_run(&mut self) -> Result<Run, Fault>
-        ensures kept { self.new.source.sound ≡ self.old.source.sound }
+        ensures kept { is_sound self.new ≡ is_sound self.old }
     {
         let first = self.next_number()?;
         if !self.take(b'*')? {
@@ -158,10 +161,12 @@ impl<'a, R: Read> Input<'a, R> {
     }
 }
 
-// A fault is noted, and what follows is read all the same: what a reader takes from a stream is seen at its other end.
+// What ends in `_or_note` notes a fault, and what follows is read all the same: what a reader takes from a stream is seen at its other end.
 impl<'a, R: Read> Input<'a, R> {
     // Reads a byte that has to be there.
-    pub fn expect_or_note(&mut self, byte: u8) -> io::Result<()> {
+    pub fn expect_or_note(&mut self, byte: u8) -> io::Result<()>
+        ensures stays { is_sound self.old ≡ false → is_sound self.new ≡ false }
+    {
         if !self.take(byte)? {
             self.note_fault();
         }
@@ -169,7 +174,9 @@ impl<'a, R: Read> Input<'a, R> {
     }
 
     // Reads digits: their number, if there are any and it has 32 bits. Ten digits say every one, and an eleventh is one too many.
-    fn digits(&mut self) -> io::Result<Option<u32>> {
+    fn digits(&mut self) -> io::Result<Option<u32>>
+        ensures kept { is_sound self.new ≡ is_sound self.old }
+    {
         let mut value = self.digit()?;
         if value.is_none() {
             return Ok(None);
@@ -184,7 +191,9 @@ impl<'a, R: Read> Input<'a, R> {
     }
 
     // A number, 0 where there is none.
-    fn number_or_note(&mut self) -> io::Result<u32> {
+    fn number_or_note(&mut self) -> io::Result<u32>
+        ensures stays { is_sound self.old ≡ false → is_sound self.new ≡ false }
+    {
         let Some(value) = self.digits()? else {
             self.note_fault();
             return Ok(0);
@@ -193,13 +202,17 @@ impl<'a, R: Read> Input<'a, R> {
     }
 
     // A space and a number.
-    pub fn next_number_or_note(&mut self) -> io::Result<u32> {
+    pub fn next_number_or_note(&mut self) -> io::Result<u32>
+        ensures stays { is_sound self.old ≡ false → is_sound self.new ≡ false }
+    {
         self.expect_or_note(b' ')?;
         self.number_or_note()
     }
 
     // A space and a word of a list: a number, or as many as a run has.
-    pub fn next_run_or_note(&mut self) -> io::Result<Run> {
+    pub fn next_run_or_note(&mut self) -> io::Result<Run>
+        ensures stays { is_sound self.old ≡ false → is_sound self.new ≡ false }
+    {
         let first = self.next_number_or_note()?;
         if !self.take(b'*')? {
             return Ok(Run {
